@@ -1,0 +1,142 @@
+-- The laws of the tests over the numbers below a bound, as a proof about a definition, or a loop, asks for them.
+use Prim.Native.Nat.{ℕ, zero, suc, _+_, _≤_, _<_}
+use mathlib.Core.Path.{_≡_, refl, sym, ap, _∙_, subst}
+use mathlib.Core.Logic.{_⊎_, inl, inr}
+use mathlib.Core.Bool.{Bool, true, false, _&&_, _||_, cond, false≢true}
+use mathlib.Core.List.{List, [], _∷_, _++_}
+use native.Mathlib.Omega.{arith}
+use native.Mathlib.Decide.{ℕ-discrete}
+use native.Mathlib.Nat.{not-suc-le-zero, add-zero, add-suc, suc-add}
+use lib.ListN.{length, getD}
+use Rattle.bits.specs.Below.{some, every, least, greatest, listFrom}
+use Rattle.bits.proofs.Bools.{either, by-cond, clash, and-left, and-right, and-true, or-left, or-right, or-cases, or-left-false, or-right-false, or-false-right}
+
+-- a number below suc n is n or below n
+pub last-or-below : (n k : ℕ) → k < suc n → (k ≡ n) ⊎ (k < n)
+last-or-below n k h = go (ℕ-discrete k n)
+  where
+    go : Dec (k ≡ n) → (k ≡ n) ⊎ (k < n)
+    go (yes e) = inl e
+    go (no ne) = inr (omega arith)
+
+module _ (f : ℕ → Bool) where
+  pub some-true : (n k : ℕ) → k < n → f k ≡ true → some n f ≡ true
+  unfolding some
+  some-true zero k h p = absurd (not-suc-le-zero h)
+  some-true (suc n) k h p = go (last-or-below n k h) (some-true n k)
+    where
+      go : (k ≡ n) ⊎ (k < n) → (k < n → f k ≡ true → some n f ≡ true) → (f n || some n f) ≡ true
+      go (inl e) ih = or-left (some n f) (ap f (sym e) ∙ p)
+      go (inr l) ih = or-right (f n) (ih l p)
+
+  pub some-found : (n : ℕ) → some n f ≡ true → (k : ℕ) × (k < n) × (f k ≡ true)
+  unfolding some
+  some-found zero e = absurd (false≢true e)
+  some-found (suc n) e = go (or-cases (f n) (some n f) e) (some-found n)
+    where
+      go : (f n ≡ true) ⊎ (some n f ≡ true) → (some n f ≡ true → (k : ℕ) × (k < n) × (f k ≡ true)) → (k : ℕ) × (k < suc n) × (f k ≡ true)
+      go (inl p) ih = (n, omega arith, p)
+      go (inr q) ih = let w = ih q in (w .0, omega arith, w .2)
+
+  pub some-false : (n k : ℕ) → k < n → some n f ≡ false → f k ≡ false
+  some-false n k h e = go (either (f k))
+    where
+      go : (f k ≡ true) ⊎ (f k ≡ false) → f k ≡ false
+      go (inl p) = clash (some-true n k h p) e
+      go (inr q) = q
+
+  pub none-passes : (n : ℕ) → ((k : ℕ) → k < n → f k ≡ false) → some n f ≡ false
+  none-passes n h = go (either (some n f))
+    where
+      go : (some n f ≡ true) ⊎ (some n f ≡ false) → some n f ≡ false
+      go (inl p) = let w = some-found n p in clash (w .2) (h (w .0) (w .1))
+      go (inr q) = q
+
+  pub every-at : (n k : ℕ) → k < n → every n f ≡ true → f k ≡ true
+  unfolding every
+  every-at zero k h e = absurd (not-suc-le-zero h)
+  every-at (suc n) k h e = go (last-or-below n k h) (every-at n k)
+    where
+      go : (k ≡ n) ⊎ (k < n) → (k < n → every n f ≡ true → f k ≡ true) → f k ≡ true
+      go (inl q) ih = ap f q ∙ and-left (f n) (every n f) e
+      go (inr l) ih = ih l (and-right (f n) (every n f) e)
+
+  pub every-true : (n : ℕ) → ((k : ℕ) → k < n → f k ≡ true) → every n f ≡ true
+  unfolding every
+  every-true zero h = refl
+  every-true (suc n) h = and-true (h n (omega arith)) (every-true n (λ k l. h k (omega arith)))
+
+  -- where none passes the least is d; else it is below the bound and passes
+  pub least-none : (n d : ℕ) → some n f ≡ false → least n f d ≡ d
+  unfolding some least
+  least-none zero d e = refl
+  least-none (suc n) d e =
+      ap (λ (b : Bool). least n f (cond b n d)) (or-left-false (f n) (some n f) e)
+      ∙ least-none n d (or-right-false (f n) (some n f) e)
+
+  pub least-found : (n d : ℕ) → some n f ≡ true → (least n f d < n) × (f (least n f d) ≡ true)
+  unfolding some least
+  least-found zero d e = absurd (false≢true e)
+  least-found (suc n) d e = go (either (some n f)) (least-found n)
+    where
+      Found : ℕ → Type 0
+      Found k = (k < suc n) × (f k ≡ true)
+
+      go : (some n f ≡ true) ⊎ (some n f ≡ false) → ((d′ : ℕ) → some n f ≡ true → (least n f d′ < n) × (f (least n f d′) ≡ true))
+          → Found (least n f (cond (f n) n d))
+      go (inl s) ih = let w = ih (cond (f n) n d) s in (omega arith, w .1)
+      go (inr s) ih =
+          let p : f n ≡ true = subst (λ (b : Bool). (f n || b) ≡ true → f n ≡ true) (sym s) (λ q. or-false-right (f n) q) e in
+          subst Found (sym (ap (λ (b : Bool). least n f (cond b n d)) p ∙ least-none n n s)) (omega arith, p)
+
+  -- an upward loop that stops at the first that passes
+  pub least-is : (n d i : ℕ) → i < n → some i f ≡ false → f i ≡ true → least n f d ≡ i
+  unfolding least
+  least-is zero d i l q p = absurd (not-suc-le-zero l)
+  least-is (suc n) d i l q p = go (last-or-below n i l) (least-is n)
+    where
+      go : (i ≡ n) ⊎ (i < n) → ((d′ i′ : ℕ) → i′ < n → some i′ f ≡ false → f i′ ≡ true → least n f d′ ≡ i′) → least n f (cond (f n) n d) ≡ i
+      go (inl e) ih =
+          ap (λ (b : Bool). least n f (cond b n d)) (ap f (sym e) ∙ p)
+          ∙ least-none n n (ap (λ (k : ℕ). some k f) (sym e) ∙ q) ∙ sym e
+      go (inr m) ih = ih (cond (f n) n d) i m q p
+
+-- tests that agree below the bound
+module _ (f h : ℕ → Bool) where
+  pub some-same : (n : ℕ) → ((k : ℕ) → k < n → f k ≡ h k) → some n f ≡ some n h
+  unfolding some
+  some-same zero q = refl
+  some-same (suc n) q = ap (λ (b : Bool). b || some n f) (q n (omega arith)) ∙ ap (λ (b : Bool). h n || b) (some-same n (λ k l. q k (omega arith)))
+
+  pub least-same : (n d : ℕ) → ((k : ℕ) → k < n → f k ≡ h k) → least n f d ≡ least n h d
+  unfolding least
+  least-same zero d q = refl
+  least-same (suc n) d q =
+      ap (λ (b : Bool). least n f (cond b n d)) (q n (omega arith)) ∙ least-same n (cond (h n) n d) (λ k l. q k (omega arith))
+
+module _ {A : Type 0} where
+  pub length-listFrom : (i n : ℕ) (f : ℕ → A) → length (listFrom i n f) ≡ n
+  unfolding listFrom
+  length-listFrom i zero f = refl
+  length-listFrom i (suc n) f = ap suc (length-listFrom (suc i) n f)
+
+  pub getD-listFrom : (i n : ℕ) (f : ℕ → A) (k : ℕ) (d : A) → k < n → getD (listFrom i n f) k d ≡ f (i + k)
+  unfolding listFrom
+  getD-listFrom i zero f k d h = absurd (not-suc-le-zero h)
+  getD-listFrom i (suc n) f zero d h = ap f (omega arith)
+  getD-listFrom i (suc n) f (suc k) d h = getD-listFrom (suc i) n f k d (omega arith) ∙ ap f (omega arith)
+
+  pub getD-list : (n : ℕ) (f : ℕ → A) (k : ℕ) (d : A) → k < n → getD (listFrom 0 n f) k d ≡ f k
+  getD-list n f k d h = getD-listFrom 0 n f k d h ∙ ap f (omega arith)
+
+module _ {A : Type 0} (f : ℕ → A) where
+  -- a list that a loop writes place by place (`take-suc-set` of lib.Seq has the other side)
+  listFrom-snoc : (i n : ℕ) → listFrom i (suc n) f ≡ listFrom i n f ++ (f (i + n) ∷ [])
+  unfolding listFrom
+  listFrom-snoc i zero = ap {B = List A} (λ (k : ℕ). f k ∷ []) (sym (add-zero i))
+  listFrom-snoc i (suc n) =
+      ap {B = List A} (λ l. f i ∷ l) (listFrom-snoc (suc i) n)
+      ∙ ap {B = List A} (λ (k : ℕ). f i ∷ (listFrom (suc i) n f ++ (f k ∷ []))) (suc-add i n ∙ sym (add-suc i n))
+
+  pub list-snoc : (n : ℕ) → listFrom 0 (suc n) f ≡ listFrom 0 n f ++ (f n ∷ [])
+  list-snoc n = listFrom-snoc 0 n ∙ ap {B = List A} (λ (k : ℕ). listFrom 0 n f ++ (f k ∷ [])) (omega arith)

@@ -1,0 +1,4 @@
+pub mod Bools
+pub mod Below
+pub mod Most
+pub mod Word

@@ -1,0 +1,99 @@
+-- Where some number below a bound passes a test, one that passes has the greatest key.
+use Prim.Native.Nat.{ℕ, zero, suc, _≤_, _<_}
+use mathlib.Core.Path.{_≡_, sym, ap, _∙_}
+use mathlib.Core.Logic.{_⊎_, inl, inr}
+use mathlib.Core.Bool.{Bool, true, false, _&&_}
+use native.Mathlib.Omega.{arith}
+use native.Mathlib.Decide.{decLe}
+use native.Mathlib.Nat.{not-suc-le-zero, le-of-eq, le-trans}
+use lib.Dec.{ltb}
+use borrow.Author.Tests.{ltb-true, lt-ltb}
+use Rattle.bits.specs.Below.{some}
+use Rattle.bits.proofs.Bools.{either, clash, and-left, and-right, and-true, same-test}
+use Rattle.bits.proofs.Below.{some-true, some-found, last-or-below}
+
+module _ (f : ℕ → Bool) (key : ℕ → ℕ) where
+  -- k passes, and whatever passes below n has no greater key
+  pub record Most (n k : ℕ) : Type 0 where
+    pub below : k < n
+    pub passes : f k ≡ true
+    pub tops : (i : ℕ) → i < n → f i ≡ true → key i ≤ key k
+
+  -- none below n passes, or there is a greatest
+  Searched : ℕ → Type 0
+  Searched n = ((k : ℕ) × Most n k) ⊎ ((i : ℕ) → i < n → f i ≡ false)
+
+  searched : (n : ℕ) → Searched n
+  unfolding Searched
+  searched zero = inr (λ i h. absurd (not-suc-le-zero h))
+  searched (suc n) = go (either (f n)) (searched n)
+    where
+      -- n itself is the greatest
+      newest : f n ≡ true → ((i : ℕ) → i < n → f i ≡ true → key i ≤ key n) → Most (suc n) n
+      newest p h = record { below = omega arith; passes = p; tops = λ i l q. top i q (last-or-below n i l) }
+        where
+          top : (i : ℕ) → f i ≡ true → (i ≡ n) ⊎ (i < n) → key i ≤ key n
+          top i q (inl e) = le-of-eq (ap key e)
+          top i q (inr l) = h i l q
+
+      -- one before n stays the greatest
+      kept : (k : ℕ) → Most n k → (f n ≡ true → key n ≤ key k) → Most (suc n) k
+      kept k w h = record { below = omega arith; passes = w .passes; tops = λ i l q. top i q (last-or-below n i l) }
+        where
+          top : (i : ℕ) → f i ≡ true → (i ≡ n) ⊎ (i < n) → key i ≤ key k
+          top i q (inl e) = le-trans (le-of-eq (ap key e)) (h (ap f (sym e) ∙ q))
+          top i q (inr l) = w .tops i l q
+
+      pick : (k : ℕ) → Most n k → f n ≡ true → Dec (key n ≤ key k) → Searched (suc n)
+      pick k w p (yes le) = inl (k, kept k w (λ _. le))
+      pick k w p (no gt) = inl (n, newest p (λ i l q. le-trans (w .tops i l q) (omega arith)))
+
+      go : (f n ≡ true) ⊎ (f n ≡ false) → Searched n → Searched (suc n)
+      go (inl p) (inl w) = pick (w .0) (w .1) p (decLe (key n) (key (w .0)))
+      go (inl p) (inr none) = inl (n, newest p (λ i l q. clash q (none i l)))
+      go (inr p) (inl w) = inl (w .0, kept (w .0) (w .1) (λ q. clash q p))
+      go (inr p) (inr none) = inr (λ i l. fails i (last-or-below n i l))
+        where
+          fails : (i : ℕ) → (i ≡ n) ⊎ (i < n) → f i ≡ false
+          fails i (inl e) = ap f e ∙ p
+          fails i (inr l) = none i l
+
+  pub most : (n j : ℕ) → j < n → f j ≡ true → (k : ℕ) × Most n k
+  unfolding Searched
+  most n j h p = go (searched n)
+    where
+      go : Searched n → (k : ℕ) × Most n k
+      go (inl w) = w
+      go (inr none) = clash p (none j h)
+
+  -- so no number that passes has a greater key: the form in which the rules of a tick ask it
+  pub none-greater : (n k : ℕ) → Most n k → some n (λ i. f i && ltb (key k) (key i)) ≡ false
+  none-greater n k w = go (either (some n greater))
+    where
+      greater : ℕ → Bool
+      greater i = f i && ltb (key k) (key i)
+
+      go : (some n greater ≡ true) ⊎ (some n greater ≡ false) → some n greater ≡ false
+      go (inl p) =
+          let x = some-found greater n p in
+          let i = x .0 in
+          let low : key i ≤ key k = w .tops i (x .1) (and-left (f i) _ (x .2)) in
+          let high : key k < key i = ltb-true (key k) (key i) (and-right (f i) _ (x .2)) in
+          absurd (omega arith)
+      go (inr q) = q
+
+  -- request Four's form: to compare with each is to compare with the greatest
+  pub some-above : (n k x : ℕ) → Most n k → some n (λ i. f i && ltb x (key i)) ≡ ltb x (key k)
+  some-above n k x w = same-test (some n above) (ltb x (key k)) there back
+    where
+      above : ℕ → Bool
+      above i = f i && ltb x (key i)
+
+      there : some n above ≡ true → ltb x (key k) ≡ true
+      there s =
+          let y = some-found above n s in
+          let high : x < key (y .0) = ltb-true x (key (y .0)) (and-right (f (y .0)) _ (y .2)) in
+          lt-ltb x (key k) (omega (arith, w .tops (y .0) (y .1) (and-left (f (y .0)) _ (y .2))))
+
+      back : ltb x (key k) ≡ true → some n above ≡ true
+      back h = some-true above n k (w .below) (and-true (w .passes) h)

@@ -1,0 +1,1 @@
+// 64-bit words: a bit set, the ones, the highest bit. Knows nothing of scheduling.

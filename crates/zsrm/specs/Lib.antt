@@ -1,0 +1,11 @@
+pub mod Tables
+pub mod Refusals
+pub mod Record
+pub mod Tick
+pub mod Run
+pub mod Legal
+pub mod Verdict
+pub mod Answers
+pub mod Bytes
+pub mod Topmost
+pub mod Traced

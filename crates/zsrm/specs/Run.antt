@@ -1,0 +1,43 @@
+-- Runs: one tick repeated, from any record and from the fresh one.
+use Prim.Native.Nat.{ℕ, zero, suc}
+use mathlib.Core.List.{List, [], _∷_}
+use lib.ListN.{take}
+use Rattle.zsrm.specs.declared.record.Record.{Record}
+use Rattle.zsrm.specs.Tables.{Given}
+use Rattle.zsrm.specs.Record.{fresh}
+use Rattle.zsrm.specs.Tick.{choice, advanced}
+
+module _ (g : Given) where
+  -- the record after given entries
+  unfoldable pub replay : Record → List ℕ → Record
+  replay r [] = r
+  replay r (e ∷ es) = replay (advanced g r e) es
+
+  -- the entries of a run of n ticks that takes, at each record, what pick says
+  unfoldable pub entriesBy : (Record → ℕ) → Record → ℕ → List ℕ
+  entriesBy pick r zero = []
+  entriesBy pick r (suc n) = pick r ∷ entriesBy pick (advanced g r (pick r)) n
+
+  -- our run from any record: its entries, and the record it ends with
+  unfoldable pub entries : Record → ℕ → List ℕ
+  entries r n = entriesBy (choice g) r n
+
+  unfoldable pub final : Record → ℕ → Record
+  final r n = replay r (entries r n)
+
+  -- our run
+  unfoldable pub runEntries : ℕ → List ℕ
+  runEntries horizon = entries (fresh (g .jobs)) horizon
+
+  unfoldable pub runRecord : ℕ → Record
+  runRecord horizon = final (fresh (g .jobs)) horizon
+
+  -- a schedule's record before its tick t, earlier entries taken as given; and after its last
+  unfoldable pub recordAt : Record → List ℕ → ℕ → Record
+  recordAt r schedule t = replay r (take t schedule)
+
+  unfoldable pub recordBefore : List ℕ → ℕ → Record
+  recordBefore schedule t = recordAt (fresh (g .jobs)) schedule t
+
+  unfoldable pub replayed : List ℕ → Record
+  replayed schedule = replay (fresh (g .jobs)) schedule

@@ -1,0 +1,105 @@
+-- Document 01, "One tick".
+use Prim.Native.Nat.{ℕ, suc, _+_}
+use mathlib.Core.Bool.{Bool, true, false, not, _&&_, cond}
+use lib.Dec.{leb, ltb, eqb}
+use Rattle.bits.specs.Below.{some, least, count, word, listFrom}
+use Rattle.zsrm.specs.declared.record.Standing.{Standing}
+use Rattle.zsrm.specs.declared.record.Standing.the-variants.{NotArrived, Unfinished, Finished, Ended}
+use Rattle.zsrm.specs.declared.record.Place.{Place}
+use Rattle.zsrm.specs.declared.record.Record.{Record}
+use Rattle.zsrm.specs.Tables.{Given, idle, jobCount, execution, jobCriticality, jobPriority, jobNominal, zeroSlackInstant}
+use Rattle.zsrm.specs.Record.{isSE, doneAt, standingAt, opening}
+
+unfoldable pub unfinished : Standing → Bool
+unfinished NotArrived = false
+unfinished Unfinished = true
+unfinished (Finished f) = false
+unfinished (Ended e) = false
+
+-- A job is alive if arrived, neither finished nor ended.
+unfoldable pub alive : Record → ℕ → Bool
+alive r j = unfinished (standingAt r j)
+
+module _ (g : Given) where
+  -- some job of the list passes
+  unfoldable pub someJob : (ℕ → Bool) → Bool
+  someJob f = some (jobCount (g .jobs)) f
+
+  -- job i is strictly more critical than job j: criticalities alone are compared
+  unfoldable pub moreCritical : ℕ → ℕ → Bool
+  moreCritical i j = ltb (jobCriticality g j) (jobCriticality g i)
+
+  -- job i has strictly higher priority than job j: priorities alone are compared
+  unfoldable pub higherPriority : ℕ → ℕ → Bool
+  higherPriority i j = ltb (jobPriority g j) (jobPriority g i)
+
+  module _ (r : Record) where
+    -- Past zero slack: alive, and arrival + Z ≤ t.
+    unfoldable pub pastZeroSlack : ℕ → Bool
+    pastZeroSlack j = alive r j && leb (zeroSlackInstant g j) (r .tick)
+
+    -- Suspended: alive, and some job past zero slack is strictly more critical.
+    unfoldable pub suspended : ℕ → Bool
+    suspended j = alive r j && someJob (λ i. pastZeroSlack i && moreCritical i j)
+
+    -- Eligible: alive and not suspended.
+    unfoldable pub eligible : ℕ → Bool
+    eligible j = alive r j && not (suspended j)
+
+    -- Candidate: eligible, with no eligible job of strictly higher priority.
+    unfoldable pub candidate : ℕ → Bool
+    candidate j = eligible j && not (someJob (λ i. eligible i && higherPriority i j))
+
+    -- Our run takes the lowest job number among the candidates; with no candidate the tick is idle.
+    unfoldable pub choice : ℕ
+    choice = least (jobCount (g .jobs)) candidate idle
+
+    -- Bit p of the ready word is set exactly when an eligible job of priority p exists.
+    unfoldable pub readyAt : ℕ → Bool
+    readyAt p = someJob (λ j. eligible j && eqb (jobPriority g j) p)
+
+    unfoldable pub readyWord : ℕ
+    readyWord = word 64 readyAt
+
+    -- the number of its ones
+    unfoldable pub readyCount : ℕ
+    readyCount = count 64 readyAt
+
+    -- What the tick does, its entry e being given.
+    module _ (e : ℕ) where
+      -- The job that ran has one more tick done.
+      unfoldable pub doneAfter : ℕ → ℕ
+      doneAfter j = doneAt r j + cond (eqb e j) 1 0
+
+      -- If that equals c it is finished at t + 1.
+      unfoldable pub finishes : ℕ → Bool
+      finishes j = eqb e j && eqb (doneAfter j) (execution (g .jobs) j)
+
+      -- SE only: over if past zero slack and its done at t, plus 1 if it runs in t, exceeds C.
+      unfoldable pub over : ℕ → Bool
+      over j = isSE (g .mode) && pastZeroSlack j && ltb (jobNominal g j) (doneAfter j)
+
+      -- Every alive job that is strictly less critical than one that is over is then ended, with tick t.
+      unfoldable pub ends : ℕ → Bool
+      ends j = alive r j && someJob (λ i. over i && moreCritical i j)
+
+      -- Bit j of the ended word is set exactly when job j is ended in this tick.
+      unfoldable pub endedWord : ℕ
+      endedWord = word 64 (λ j. ltb j (jobCount (g .jobs)) && ends j)
+
+      -- the standing after the tick of a job that was alive in it
+      unfoldable pub goesOn : ℕ → Standing
+      goesOn j = cond (finishes j) (Finished (suc (r .tick))) (cond (ends j) (Ended (r .tick)) Unfinished)
+
+      unfoldable pub standingAfter : ℕ → Standing → Standing
+      standingAfter j NotArrived = opening (g .jobs) (suc (r .tick)) j
+      standingAfter j Unfinished = goesOn j
+      standingAfter j (Finished f) = Finished f
+      standingAfter j (Ended t) = Ended t
+
+      unfoldable pub placeAfter : ℕ → Place
+      placeAfter j = record { done = doneAfter j; standing = standingAfter j (standingAt r j) }
+
+      -- The record comes back advanced by one tick.
+      unfoldable pub advanced : Record
+      advanced = record { tick = suc (r .tick); places = listFrom 0 64 placeAfter }

@@ -1,0 +1,125 @@
+-- Document 01, "Traced schedules": the cases marked P, as one table. What a case says is set beside what the entry points answer.
+use Prim.Native.Nat.{ℕ}
+use mathlib.Core.List.{List, [], _∷_, _++_, map}
+use lib.ListN.{replicate}
+use Rattle.bits.specs.Below.{listFrom}
+use Rattle.zsrm.specs.declared.tables.Mode.{Mode}
+use Rattle.zsrm.specs.declared.tables.Mode.the-variants.{S, SE}
+use Rattle.zsrm.specs.declared.record.Standing.{Standing}
+use Rattle.zsrm.specs.declared.record.Standing.the-variants.{Unfinished, Finished, Ended}
+use Rattle.zsrm.specs.declared.answers.Outcome.{Outcome}
+use Rattle.zsrm.specs.declared.answers.Outcome.the-variants.{Done}
+use Rattle.zsrm.specs.declared.answers.Claim.{Claim}
+use Rattle.zsrm.specs.declared.answers.Claim.the-variants.{Legal, NotLegal}
+use Rattle.zsrm.specs.declared.answers.Verdict.{Verdict}
+use Rattle.zsrm.specs.declared.answers.Verdict.the-variants.{Met, Late, Open, Ended as EndedV}
+use Rattle.zsrm.specs.Tables.{Given, idle, jobCount}
+use Rattle.zsrm.specs.Record.{standingAt}
+use Rattle.zsrm.specs.Answers.{given, runAnswer, runSchedule, claimAnswer, verdictAnswer}
+
+-- of a run: its outcome, its entries, where each job stands at its end, with finishing instant or ending tick, and each job's verdict;
+-- the answer to the claim of those entries; and the answers to further claims
+pub record Trace : Type 0 where
+  pub outcome : Outcome
+  pub entries : List ℕ
+  pub standings : List Standing
+  pub verdicts : List Verdict
+  pub own : Claim
+  pub further : List Claim
+
+pub record Case : Type 0 where
+  pub setting : Given
+  pub horizon : ℕ
+  pub claims : List (List ℕ)
+  pub trace : Trace
+
+-- what document 01 says of a case
+unfoldable pub said : Case → Trace
+said c = c .trace
+
+-- what the entry points answer, the run's list being lent with zeros in it
+unfoldable pub computed : Case → Trace
+computed c =
+    let g = c .setting in
+    let h = c .horizon in
+    let n = jobCount (g .jobs) in
+    let lent : List ℕ = replicate h 0 in
+    let ran = runAnswer g h lent in
+    let es = runSchedule g h lent in
+    record {
+      outcome = ran .outcome;
+      entries = es;
+      standings = listFrom 0 n (standingAt (ran .«record»));
+      verdicts = listFrom 0 n (verdictAnswer g (ran .«record»));
+      own = claimAnswer g h es;
+      further = map (claimAnswer g h) (c .claims);
+    }
+
+-- the paper's Fig. 1 in half units
+abbrev pub fig1 : List ℕ
+fig1 = 8 ∷ 8 ∷ 4 ∷ 4 ∷ 1 ∷ 2 ∷ 4 ∷ 20 ∷ 16 ∷ 5 ∷ 10 ∷ 2 ∷ 1 ∷ 10 ∷ []
+
+-- list A, its middle execution time being c
+abbrev pub listA : ℕ → List ℕ
+listA c = 0 ∷ 0 ∷ 4 ∷ 1 ∷ 0 ∷ c ∷ 0 ∷ 8 ∷ 4 ∷ []
+
+-- two equal tasks, each 10 10 3 3 1 1 10, and one job each at 0 with c 3
+abbrev pub equals : List ℕ
+equals = 10 ∷ 10 ∷ 3 ∷ 3 ∷ 1 ∷ 1 ∷ 10 ∷ 10 ∷ 10 ∷ 3 ∷ 3 ∷ 1 ∷ 1 ∷ 10 ∷ []
+
+abbrev pub both : List ℕ
+both = 0 ∷ 0 ∷ 3 ∷ 1 ∷ 0 ∷ 3 ∷ []
+
+-- a case over Fig. 1: accepted, and its run a legal claim
+abbrev pub onFig1 : Mode → List ℕ → ℕ → List ℕ → List Standing → List Verdict → Case
+onFig1 m jobs h es ss vs =
+    record {
+      setting = given m fig1 jobs;
+      horizon = h;
+      claims = [];
+      trace = record { outcome = Done; entries = es; standings = ss; verdicts = vs; own = Legal; further = [] };
+    }
+
+-- case 10: the run is 000111, the claim 111000 legal, 010101 not legal at 1
+abbrev pub onEquals : Mode → Case
+onEquals m =
+    record {
+      setting = given m equals both;
+      horizon = 6;
+      claims = (1 ∷ 1 ∷ 1 ∷ 0 ∷ 0 ∷ 0 ∷ []) ∷ (0 ∷ 1 ∷ 0 ∷ 1 ∷ 0 ∷ 1 ∷ []) ∷ [];
+      trace =
+          record {
+            outcome = Done;
+            entries = 0 ∷ 0 ∷ 0 ∷ 1 ∷ 1 ∷ 1 ∷ [];
+            standings = Finished 3 ∷ Finished 6 ∷ [];
+            verdicts = Met ∷ Met ∷ [];
+            own = Legal;
+            further = Legal ∷ NotLegal 1 ∷ [];
+          };
+    }
+
+-- the cases 1 to 9, and 10 in either mode
+unfoldable pub table : List Case
+table =
+    onFig1 S (listA 5) 16 (0 ∷ 0 ∷ 0 ∷ 0 ∷ 1 ∷ 1 ∷ 1 ∷ 1 ∷ 2 ∷ 2 ∷ 1 ∷ 2 ∷ 2 ∷ idle ∷ idle ∷ idle ∷ [])
+    (Finished 4 ∷ Finished 11 ∷ Finished 13 ∷ []) (Met ∷ Met ∷ Met ∷ [])
+    ∷ onFig1 S (listA 10) 18 (0 ∷ 0 ∷ 0 ∷ 0 ∷ 1 ∷ 1 ∷ 1 ∷ 1 ∷ 2 ∷ 2 ∷ 1 ∷ 1 ∷ 1 ∷ 1 ∷ 1 ∷ 1 ∷ 2 ∷ 2 ∷ [])
+    (Finished 4 ∷ Finished 16 ∷ Finished 18 ∷ []) (Met ∷ Met ∷ Late ∷ [])
+    ∷ onFig1 S (listA 10) 16 (0 ∷ 0 ∷ 0 ∷ 0 ∷ 1 ∷ 1 ∷ 1 ∷ 1 ∷ 2 ∷ 2 ∷ 1 ∷ 1 ∷ 1 ∷ 1 ∷ 1 ∷ 1 ∷ [])
+    (Finished 4 ∷ Finished 16 ∷ Unfinished ∷ []) (Met ∷ Met ∷ Late ∷ [])
+    ∷ onFig1 S (listA 10) 15 (0 ∷ 0 ∷ 0 ∷ 0 ∷ 1 ∷ 1 ∷ 1 ∷ 1 ∷ 2 ∷ 2 ∷ 1 ∷ 1 ∷ 1 ∷ 1 ∷ 1 ∷ [])
+    (Finished 4 ∷ Unfinished ∷ Unfinished ∷ []) (Met ∷ Open ∷ Open ∷ [])
+    ∷ onFig1 SE (listA 10) 18 (0 ∷ 0 ∷ 0 ∷ 0 ∷ 1 ∷ 1 ∷ 1 ∷ 1 ∷ 2 ∷ 2 ∷ 1 ∷ 1 ∷ 1 ∷ 1 ∷ 1 ∷ 1 ∷ idle ∷ idle ∷ [])
+    (Finished 4 ∷ Finished 16 ∷ Ended 11 ∷ []) (Met ∷ Met ∷ EndedV ∷ [])
+    ∷ onFig1 SE (listA 6) 16 (0 ∷ 0 ∷ 0 ∷ 0 ∷ 1 ∷ 1 ∷ 1 ∷ 1 ∷ 2 ∷ 2 ∷ 1 ∷ 1 ∷ idle ∷ idle ∷ idle ∷ idle ∷ [])
+    (Finished 4 ∷ Finished 12 ∷ Ended 11 ∷ []) (Met ∷ Met ∷ EndedV ∷ [])
+    ∷ onFig1 SE (listA 5) 16 (0 ∷ 0 ∷ 0 ∷ 0 ∷ 1 ∷ 1 ∷ 1 ∷ 1 ∷ 2 ∷ 2 ∷ 1 ∷ 2 ∷ 2 ∷ idle ∷ idle ∷ idle ∷ [])
+    (Finished 4 ∷ Finished 11 ∷ Finished 13 ∷ []) (Met ∷ Met ∷ Met ∷ [])
+    ∷ onFig1 S (listA 6) 16 (0 ∷ 0 ∷ 0 ∷ 0 ∷ 1 ∷ 1 ∷ 1 ∷ 1 ∷ 2 ∷ 2 ∷ 1 ∷ 1 ∷ 2 ∷ 2 ∷ idle ∷ idle ∷ [])
+    (Finished 4 ∷ Finished 12 ∷ Finished 14 ∷ []) (Met ∷ Met ∷ Met ∷ [])
+    ∷ onFig1 SE (listA 10 ++ (0 ∷ 16 ∷ 4 ∷ [])) 20
+    (0 ∷ 0 ∷ 0 ∷ 0 ∷ 1 ∷ 1 ∷ 1 ∷ 1 ∷ 2 ∷ 2 ∷ 1 ∷ 1 ∷ 1 ∷ 1 ∷ 1 ∷ 1 ∷ 3 ∷ 3 ∷ 3 ∷ 3 ∷ [])
+    (Finished 4 ∷ Finished 16 ∷ Ended 11 ∷ Finished 20 ∷ []) (Met ∷ Met ∷ EndedV ∷ Met ∷ [])
+    ∷ onEquals S
+    ∷ onEquals SE
+    ∷ []

@@ -1,0 +1,49 @@
+use crate::record::Record;
+
+// What the entry points answer. A refusal is its number and its place, as document 01 numbers them.
+
+// What the checks find, and what a run or a step came to.
+pub enum Outcome {
+    Done,
+    Refused(u32, u32),
+}
+
+// The answer of a fresh record and of a run.
+pub struct Ran {
+    pub outcome: Outcome,
+    pub record: Record,
+}
+
+// The answer of a step: the record advanced by one tick, and what the tick did.
+pub struct Stepped {
+    pub outcome: Outcome,
+    pub record: Record,
+    pub ready: u64,
+    pub ones: u32,
+    pub entry: u16,
+    pub ended: u64,
+}
+
+// The answer to a claimed schedule; not legal at the tick named.
+pub enum Claim {
+    Refused(u32, u32),
+    Legal,
+    NotLegal(u32),
+}
+
+// The verdict on one job.
+pub enum Verdict {
+    Refused(u32, u32),
+    Met,
+    Late,
+    Ended,
+    Open,
+}
+
+// The answer to a miss witness.
+pub enum Witness {
+    Refused(u32, u32),
+    NotLegal(u32),
+    NotMissed,
+    Accepted,
+}

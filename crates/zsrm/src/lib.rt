@@ -1,0 +1,18 @@
+// A ZSRM schedule on one processor in whole ticks: stepped, run, checked, judged. Every rule is document 01's and stands, as a
+// definition, in specs/; the theorems about them stand in proofs/, Promise first.
+mod answers;
+mod record;
+mod tables;
+
+pub use answers::Claim;
+pub use answers::Outcome;
+pub use answers::Ran;
+pub use answers::Stepped;
+pub use answers::Verdict;
+pub use answers::Witness;
+pub use record::Place;
+pub use record::Record;
+pub use record::Standing;
+pub use tables::Criticality;
+pub use tables::Mode;
+pub use tables::Priority;
