@@ -1,15 +1,16 @@
 -- The laws of the tests over the numbers below a bound, as a proof about a definition, or a loop, asks for them.
-use Prim.Native.Nat.{ℕ, zero, suc, _+_, _≤_, _<_}
-use mathlib.Core.Path.{_≡_, refl, sym, ap, _∙_, subst}
+-- A law by the name of a definition and -same says that tests that agree below the bound give it one answer.
+use Prim.Native.Nat.{ℕ, zero, suc, _+_, _<_}
+use mathlib.Core.Path.{_≡_, refl, sym, ap, ap₂, _∙_, subst}
 use mathlib.Core.Logic.{_⊎_, inl, inr}
-use mathlib.Core.Bool.{Bool, true, false, _&&_, _||_, cond, false≢true}
+use mathlib.Core.Bool.{Bool, true, false, _||_, cond, false≢true}
 use mathlib.Core.List.{List, [], _∷_, _++_}
 use native.Mathlib.Omega.{arith}
 use native.Mathlib.Decide.{ℕ-discrete}
 use native.Mathlib.Nat.{not-suc-le-zero, add-zero, add-suc, suc-add}
 use lib.ListN.{length, getD}
-use Rattle.bits.specs.Below.{some, every, least, greatest, listFrom}
-use Rattle.bits.proofs.Bools.{either, by-cond, clash, and-left, and-right, and-true, or-left, or-right, or-cases, or-left-false, or-right-false, or-false-right}
+use Rattle.bits.specs.Below.{some, every, least, greatest, count, listFrom}
+use Rattle.bits.proofs.Bools.{either, fails, clash, and-left, and-right, and-true, or-left, or-right, or-cases, or-left-false, or-right-false, or-false-right}
 
 -- a number below suc n is n or below n
 pub last-or-below : (n k : ℕ) → k < suc n → (k ≡ n) ⊎ (k < n)
@@ -39,18 +40,10 @@ module _ (f : ℕ → Bool) where
       go (inr q) ih = let w = ih q in (w .0, omega arith, w .2)
 
   pub some-false : (n k : ℕ) → k < n → some n f ≡ false → f k ≡ false
-  some-false n k h e = go (either (f k))
-    where
-      go : (f k ≡ true) ⊎ (f k ≡ false) → f k ≡ false
-      go (inl p) = clash (some-true n k h p) e
-      go (inr q) = q
+  some-false n k h e = fails (f k) (λ p. clash (some-true n k h p) e)
 
   pub none-passes : (n : ℕ) → ((k : ℕ) → k < n → f k ≡ false) → some n f ≡ false
-  none-passes n h = go (either (some n f))
-    where
-      go : (some n f ≡ true) ⊎ (some n f ≡ false) → some n f ≡ false
-      go (inl p) = let w = some-found n p in clash (w .2) (h (w .0) (w .1))
-      go (inr q) = q
+  none-passes n h = fails (some n f) (λ p. let w = some-found n p in clash (w .2) (h (w .0) (w .1)))
 
   pub every-at : (n k : ℕ) → k < n → every n f ≡ true → f k ≡ true
   unfolding every
@@ -101,6 +94,27 @@ module _ (f : ℕ → Bool) where
           ∙ least-none n n (ap (λ (k : ℕ). some k f) (sym e) ∙ q) ∙ sym e
       go (inr m) ih = ih (cond (f n) n d) i m q p
 
+  -- a downward loop goes past a number that fails
+  pub greatest-skip : (n d : ℕ) → f n ≡ false → greatest (suc n) f d ≡ greatest n f d
+  unfolding greatest
+  greatest-skip n d q = ap (λ (b : Bool). cond b n (greatest n f d)) q
+
+  -- and stops at the first that passes
+  pub greatest-here : (n d : ℕ) → f n ≡ true → greatest (suc n) f d ≡ n
+  unfolding greatest
+  greatest-here n d p = ap (λ (b : Bool). cond b n (greatest n f d)) p
+
+  -- at 0 it found none
+  pub greatest-end : (d : ℕ) → greatest 0 f d ≡ d
+  unfolding greatest
+  greatest-end d = refl
+
+  -- where none passes the greatest is d
+  pub greatest-none : (n d : ℕ) → some n f ≡ false → greatest n f d ≡ d
+  unfolding some greatest
+  greatest-none zero d e = refl
+  greatest-none (suc n) d e = greatest-skip n d (or-left-false (f n) (some n f) e) ∙ greatest-none n d (or-right-false (f n) (some n f) e)
+
 -- tests that agree below the bound
 module _ (f h : ℕ → Bool) where
   pub some-same : (n : ℕ) → ((k : ℕ) → k < n → f k ≡ h k) → some n f ≡ some n h
@@ -113,6 +127,16 @@ module _ (f h : ℕ → Bool) where
   least-same zero d q = refl
   least-same (suc n) d q =
       ap (λ (b : Bool). least n f (cond b n d)) (q n (omega arith)) ∙ least-same n (cond (h n) n d) (λ k l. q k (omega arith))
+
+  pub greatest-same : (n d : ℕ) → ((k : ℕ) → k < n → f k ≡ h k) → greatest n f d ≡ greatest n h d
+  unfolding greatest
+  greatest-same zero d q = refl
+  greatest-same (suc n) d q = ap₂ (λ (b : Bool) (x : ℕ). cond b n x) (q n (omega arith)) (greatest-same n d (λ k l. q k (omega arith)))
+
+  pub count-same : (n : ℕ) → ((k : ℕ) → k < n → f k ≡ h k) → count n f ≡ count n h
+  unfolding count
+  count-same zero q = refl
+  count-same (suc n) q = ap₂ (λ (b : Bool) (x : ℕ). cond b 1 0 + x) (q n (omega arith)) (count-same n (λ k l. q k (omega arith)))
 
 module _ {A : Type 0} where
   pub length-listFrom : (i n : ℕ) (f : ℕ → A) → length (listFrom i n f) ≡ n

@@ -1,7 +1,10 @@
--- What a passed or failed test tells: `&&`, `||`, `not` and `cond`.
+-- What a passed or failed test tells: `&&`, `||`, `not`, `cond` and equality.
+-- The rulesets at the end let `search` read a chain of tests, or make one.
+use Prim.Native.Nat.{ℕ}
 use mathlib.Core.Path.{_≡_, refl, sym, ap, _∙_, subst}
 use mathlib.Core.Logic.{_⊎_, inl, inr}
 use mathlib.Core.Bool.{Bool, true, false, not, _&&_, _||_, cond, true≢false, false≢true}
+use lib.Dec.{eqb}
 use borrow.Author.Tests.{ltb-false, leb-false, eqb-false, not-false, ltb-true, leb-true, eqb-true, not-true, lt-ltb, le-leb, eq-eqb}
 
 -- a test passes or fails, and which is kept
@@ -67,6 +70,10 @@ pub same-test : (a b : Bool) → (a ≡ true → b ≡ true) → (b ≡ true →
 same-test true b h k = sym (h refl)
 same-test false true h k = k refl
 same-test false false h k = refl
+
+-- a test of equality reads the same either way round
+pub eqb-swap : (a b : ℕ) → eqb a b ≡ eqb b a
+eqb-swap a b = same-test (eqb a b) (eqb b a) (λ t. eq-eqb b a (sym (eqb-true a b t))) (λ t. eq-eqb a b (sym (eqb-true b a t)))
 
 pub fails : (b : Bool) → (b ≡ true → ⊥) → b ≡ false
 fails true h = absurd (h refl)

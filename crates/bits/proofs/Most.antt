@@ -1,4 +1,5 @@
 -- Where some number below a bound passes a test, one that passes has the greatest key.
+-- With the number itself for its key, that one is what `greatest` of specs/Below.antt finds.
 use Prim.Native.Nat.{ℕ, zero, suc, _≤_, _<_}
 use mathlib.Core.Path.{_≡_, sym, ap, _∙_}
 use mathlib.Core.Logic.{_⊎_, inl, inr}
@@ -7,10 +8,10 @@ use native.Mathlib.Omega.{arith}
 use native.Mathlib.Decide.{decLe}
 use native.Mathlib.Nat.{not-suc-le-zero, le-of-eq, le-trans}
 use lib.Dec.{ltb}
-use borrow.Author.Tests.{ltb-true, lt-ltb}
-use Rattle.bits.specs.Below.{some}
-use Rattle.bits.proofs.Bools.{either, clash, and-left, and-right, and-true, same-test}
-use Rattle.bits.proofs.Below.{some-true, some-found, last-or-below}
+use borrow.Author.Tests.{ltb-true, lt-ltb, le-ltb}
+use Rattle.bits.specs.Below.{some, greatest}
+use Rattle.bits.proofs.Bools.{either, clash, and-left, and-right, and-true, same-test, fails}
+use Rattle.bits.proofs.Below.{some-true, some-found, last-or-below, greatest-skip, greatest-here}
 
 module _ (f : ℕ → Bool) (key : ℕ → ℕ) where
   -- k passes, and whatever passes below n has no greater key
@@ -66,23 +67,7 @@ module _ (f : ℕ → Bool) (key : ℕ → ℕ) where
       go (inl w) = w
       go (inr none) = clash p (none j h)
 
-  -- so no number that passes has a greater key: the form in which the rules of a tick ask it
-  pub none-greater : (n k : ℕ) → Most n k → some n (λ i. f i && ltb (key k) (key i)) ≡ false
-  none-greater n k w = go (either (some n greater))
-    where
-      greater : ℕ → Bool
-      greater i = f i && ltb (key k) (key i)
-
-      go : (some n greater ≡ true) ⊎ (some n greater ≡ false) → some n greater ≡ false
-      go (inl p) =
-          let x = some-found greater n p in
-          let i = x .0 in
-          let low : key i ≤ key k = w .tops i (x .1) (and-left (f i) _ (x .2)) in
-          let high : key k < key i = ltb-true (key k) (key i) (and-right (f i) _ (x .2)) in
-          absurd (omega arith)
-      go (inr q) = q
-
-  -- request Four's form: to compare with each is to compare with the greatest
+  -- to compare with the key of each that passes is to compare with the greatest
   pub some-above : (n k x : ℕ) → Most n k → some n (λ i. f i && ltb x (key i)) ≡ ltb x (key k)
   some-above n k x w = same-test (some n above) (ltb x (key k)) there back
     where
@@ -97,3 +82,23 @@ module _ (f : ℕ → Bool) (key : ℕ → ℕ) where
 
       back : ltb x (key k) ≡ true → some n above ≡ true
       back h = some-true above n k (w .below) (and-true (w .passes) h)
+
+  -- so no number that passes has a greater key
+  pub none-greater : (n k : ℕ) → Most n k → some n (λ i. f i && ltb (key k) (key i)) ≡ false
+  none-greater n k w = some-above n k (key k) w ∙ le-ltb (key k) (key k) (omega arith)
+
+module _ (f : ℕ → Bool) where
+  -- with its own number for a key, the one with the greatest key is the greatest number that passes
+  pub greatest-is : (n d k : ℕ) → Most f (λ p. p) n k → greatest n f d ≡ k
+  greatest-is zero d k w = absurd (not-suc-le-zero (w .below))
+  greatest-is (suc n) d k w = go (last-or-below n k (w .below)) (greatest-is n d k)
+    where
+      go : (k ≡ n) ⊎ (k < n) → (Most f (λ p. p) n k → greatest n f d ≡ k) → greatest (suc n) f d ≡ k
+      go (inl e) ih = greatest-here f n d (ap f (sym e) ∙ w .passes) ∙ sym e
+      go (inr l) ih =
+          greatest-skip f n d (fails (f n) (λ t. omega (arith, w .tops n (omega arith) t)))
+          ∙ ih (record { below = l; passes = w .passes; tops = λ i m. w .tops i (omega arith) })
+
+  -- where some number passes, the greatest is below the bound, passes, and no other that passes is above it
+  pub greatest-found : (n d i : ℕ) → i < n → f i ≡ true → Most f (λ p. p) n (greatest n f d)
+  greatest-found n d i l p = let w = most f (λ p. p) n i l p in rw (greatest-is n d (w .0) (w .1)) (w .1)

@@ -1,33 +1,37 @@
--- The word whose bits are a test's: its size, one more bit by `|`, its ones, and its leading zeros.
-use Prim.Native.Nat.{ℕ, zero, suc, _+_, _-_, _*_, _^_, _≤_, _<_}
-use mathlib.Core.Path.{_≡_, refl, sym, ap, ap₂, _∙_, subst}
+-- The laws of words and their bits: a word is fixed by its bits, and a word made from a test answers as the test does.
+-- A caller cites these and opens neither `word`, `bit` nor `withBit`.
+use Prim.Native.Nat.{ℕ, zero, suc, _+_, _*_, _/_, _%_, _^_, _≤_, _<_, zero-le}
+use mathlib.Core.Path.{_≡_, refl, sym, ap, ap₂, _∙_}
 use mathlib.Core.Logic.{_⊎_, inl, inr}
-use mathlib.Core.Bool.{Bool, true, false, _||_, cond}
+use mathlib.Core.Bool.{Bool, true, false, _&&_, _||_, cond, or-comm, or-false}
 use native.Mathlib.Omega.{arith}
-use native.Mathlib.Nat.{not-suc-le-zero, pow-suc, mul-one, zero-mul, one-mul, zero-add, add-zero, lt-of-lt-of-le}
-use lib.Pow.{pow-pos, pow-mono, pow-lt}
-use lib.Bits.{bitOr, or-block, or-zero-l, or-zero-r}
-use lib.Count.{ones, leadingZeros, ones-cat, leading-unique}
+use native.Mathlib.Numerals.{one-add}
+use native.Mathlib.Nat.{not-suc-le-zero, pow-suc, pow-succ', zero-mul, one-mul, zero-add, add-zero, mod-one, mod-lt, mod-eq-of-lt, div-eq-of-lt, div-eq-of-lt-le, lt-of-lt-of-le, lt-of-not-le, le-of-suc-le-suc}
+use lib.Pow.{pow-lt, pow-mono, mod-pow-add}
+use lib.Bits.{bitOr, or-block}
+use lib.Count.{ones, leadingZeros, ones-cat, leading-top}
 use lib.Dec.{eqb}
 use borrow.Author.Tests.{eq-eqb, ne-eqb}
-use Rattle.bits.specs.Below.{some, count, word}
-use Rattle.bits.proofs.Bools.{by-cond, fails}
-use Rattle.bits.proofs.Below.{last-or-below}
-use native.Mathlib.Decide.{decLe}
-use Rattle.bits.proofs.Most.{Most}
+use Rattle.bits.specs.Below.{some, count, greatest, word, bit}
+use Rattle.bits.specs.Word.{withBit}
+use Rattle.bits.proofs.Bools.{by-cond, clash, eqb-swap}
+use Rattle.bits.proofs.Below.{last-or-below, none-passes, greatest-none, greatest-same, count-same}
+use Rattle.bits.proofs.Most.{greatest-is}
 
-bit : Bool → ℕ
-bit b = cond b 1 0
+-- a bit as a number
+abbrev digit : Bool → ℕ
+digit b = cond b 1 0
 
 -- a word is its top bit and the word below it
-word-split : (f : ℕ → Bool) (n : ℕ) → word (suc n) f ≡ bit (f n) * 2 ^ n + word n f
-unfolding word bit
+word-split : (f : ℕ → Bool) (n : ℕ) → word (suc n) f ≡ digit (f n) * 2 ^ n + word n f
+unfolding word
 word-split f n = ap (λ (x : ℕ). x + word n f) (go (f n))
   where
-    go : (b : Bool) → cond b (2 ^ n) 0 ≡ cond b 1 0 * 2 ^ n
+    go : (b : Bool) → cond b (2 ^ n) 0 ≡ digit b * 2 ^ n
     go true = sym (one-mul (2 ^ n))
     go false = sym (zero-mul (2 ^ n))
 
+-- a word of n bits is below 2 ^ n
 pub word-lt : (f : ℕ → Bool) (n : ℕ) → word n f < 2 ^ n
 unfolding word
 word-lt f zero = omega arith
@@ -35,85 +39,175 @@ word-lt f (suc n) =
     let ih = word-lt f n in
     by-cond (λ x. x + word n f < 2 ^ suc n) (f n) (2 ^ n) 0 (λ _. rw pow-suc (omega arith)) (λ _. rw pow-suc (omega arith))
 
--- the ones of the word are as many as pass
-pub ones-word : (f : ℕ → Bool) (n : ℕ) → ones (word n f) ≡ count n f
-unfolding count
-ones-word f zero = unfold word ones in refl
-ones-word f (suc n) = ap ones (word-split f n) ∙ ones-cat n (bit (f n)) (word n f) (word-lt f n) ∙ ap₂ (λ (a b : ℕ). a + b) (go (f n)) (ones-word f n)
-  where
-    go : (b : Bool) → ones (bit b) ≡ cond b 1 0
-    go true = unfold ones bit in refl
-    go false = unfold ones bit in refl
-
+-- tests that agree below n make one word
 pub word-same : (f h : ℕ → Bool) (n : ℕ) → ((k : ℕ) → k < n → f k ≡ h k) → word n f ≡ word n h
 unfolding word
 word-same f h zero q = refl
 word-same f h (suc n) q =
     ap₂ (λ (b : Bool) (x : ℕ). cond b (2 ^ n) 0 + x) (q n (omega arith)) (word-same f h n (λ k l. q k (omega arith)))
 
-or-false : (b c : Bool) → c ≡ false → (b || c) ≡ b
-or-false true c q = refl
-or-false false c q = q
+-- a test that fails below n makes the word 0
+pub word-none : (f : ℕ → Bool) (n : ℕ) → ((k : ℕ) → k < n → f k ≡ false) → word n f ≡ 0
+unfolding word
+word-none f zero q = refl
+word-none f (suc n) q = rw (q n (omega arith), word-none f n (λ k l. q k (omega arith)))
 
-or-true : (b c : Bool) → c ≡ true → (b || c) ≡ true
-or-true true c q = refl
-or-true false c q = q
+-- the word of a number's low bits is the number without the others
+word-low : (w n : ℕ) → word n (bit w) ≡ w % 2 ^ n
+unfolding word bit
+word-low w zero = sym (mod-one w)
+word-low w (suc n) =
+    word-split (bit w) n ∙ ap₂ (λ (x y : ℕ). x * 2 ^ n + y) (odd (w / 2 ^ n % 2) (mod-lt (w / 2 ^ n) (omega arith))) (word-low w n)
+    ∙ sym (mod-pow-add w 1 n) ∙ ap (λ (k : ℕ). w % 2 ^ k) (one-add n)
+  where
+    odd : (x : ℕ) → x < 2 → digit (eqb x 1) ≡ x
+    odd zero l = refl
+    odd (suc zero) l = refl
+    odd (suc (suc x)) l = absurd (omega arith)
 
--- one more bit
-pub or-word : (f : ℕ → Bool) (n p : ℕ) → p < n → bitOr (word n f) (2 ^ p) ≡ word n (λ q. f q || eqb q p)
+-- a number below 2 ^ n is the word of its bits
+pub word-bits : (w n : ℕ) → w < 2 ^ n → word n (bit w) ≡ w
+word-bits w n l = word-low w n ∙ mod-eq-of-lt l
+
+-- so two of them with the same bits are one
+pub words-same : (v w n : ℕ) → v < 2 ^ n → w < 2 ^ n → ((p : ℕ) → p < n → bit v p ≡ bit w p) → v ≡ w
+words-same v w n h k q = sym (word-bits v n h) ∙ word-same (bit v) (bit w) n q ∙ word-bits w n k
+
+-- and tests that make one word agree below n
+pub word-tells : (f h : ℕ → Bool) (n p : ℕ) → word n f ≡ word n h → p < n → f p ≡ h p
+unfolding word
+word-tells f h zero p e l = absurd (not-suc-le-zero l)
+word-tells f h (suc n) p e l = go (top (f n) (h n) (word-lt f n) (word-lt h n) e) (word-tells f h n p) (last-or-below n p l)
+  where
+    top : (b c : Bool) {x y : ℕ} → x < 2 ^ n → y < 2 ^ n → cond b (2 ^ n) 0 + x ≡ cond c (2 ^ n) 0 + y → (b ≡ c) × (x ≡ y)
+    top true true hx hy q = (refl, omega arith)
+    top true false hx hy q = absurd (omega arith)
+    top false true hx hy q = absurd (omega arith)
+    top false false hx hy q = (refl, omega arith)
+
+    go : (f n ≡ h n) × (word n f ≡ word n h) → (word n f ≡ word n h → p < n → f p ≡ h p) → (p ≡ n) ⊎ (p < n) → f p ≡ h p
+    go t ih (inl q) = rw q (t .0)
+    go t ih (inr m) = ih (t .1) m
+
+-- bit p of a test's word is the test at p
+pub bit-word : (f : ℕ → Bool) (n p : ℕ) → p < n → bit (word n f) p ≡ f p
+bit-word f n p = word-tells (bit (word n f)) f n p (word-bits (word n f) n (word-lt f n))
+
+-- a number below 2 ^ n has no bit at n or above
+pub bit-above : (w n p : ℕ) → w < 2 ^ n → n ≤ p → bit w p ≡ false
 unfolding bit
-or-word f zero p l = absurd (not-suc-le-zero l)
-or-word f (suc n) p l = go (last-or-below n p l) (or-word f n p)
+bit-above w n p h l = rw (div-eq-of-lt (lt-of-lt-of-le h (pow-mono l)))
+
+-- the `|` of two words
+pub or-words : (f h : ℕ → Bool) (n : ℕ) → bitOr (word n f) (word n h) ≡ word n (λ q. f q || h q)
+or-words f h zero = unfold word in refl
+or-words f h (suc n) =
+    ap₂ bitOr (word-split f n) (word-split h n) ∙ or-block n (digit (f n)) (digit (h n)) (word n f) (word n h) (word-lt f n) (word-lt h n)
+    ∙ ap₂ (λ (x y : ℕ). x * 2 ^ n + y) (or-digit (f n) (h n)) (or-words f h n) ∙ sym (word-split (λ q. f q || h q) n)
   where
-    h : ℕ → Bool
-    h q = f q || eqb q p
+    or-digit : (b c : Bool) → bitOr (digit b) (digit c) ≡ digit (b || c)
+    or-digit true true = refl
+    or-digit true false = refl
+    or-digit false true = refl
+    or-digit false false = refl
 
-    split : (a b x y : ℕ) → a < 2 ^ n → b < 2 ^ n → bitOr (x * 2 ^ n + a) (y * 2 ^ n + b) ≡ bitOr x y * 2 ^ n + bitOr a b
-    split a b x y ha hb = or-block n x y a b ha hb
-
-    top : (b : Bool) → bitOr (bit b) 1 ≡ 1
-    top true = refl
-    top false = refl
-
-    go : (p ≡ n) ⊎ (p < n) → (p < n → bitOr (word n f) (2 ^ p) ≡ word n h) → bitOr (word (suc n) f) (2 ^ p) ≡ word (suc n) h
-    go (inl e) ih =
-        ap₂ bitOr (word-split f n) (ap (λ (k : ℕ). 2 ^ k) e ∙ sym (one-mul (2 ^ n)) ∙ sym (add-zero (1 * 2 ^ n)))
-        ∙ split (word n f) 0 (bit (f n)) 1 (word-lt f n) (pow-pos n)
-        ∙ ap₂ (λ (x y : ℕ). x * 2 ^ n + y)
-        (top (f n) ∙ sym (ap bit (or-true (f n) (eqb n p) (eq-eqb n p (sym e)))))
-        (or-zero-r (word n f) ∙ word-same f h n (λ k m. sym (or-false (f k) (eqb k p) (ne-eqb k p (λ z. omega (arith, e))))))
-        ∙ sym (word-split h n)
-    go (inr m) ih =
-        ap₂ bitOr (word-split f n) (sym (zero-add (2 ^ p)) ∙ ap (λ (x : ℕ). x + 2 ^ p) (sym (zero-mul (2 ^ n))))
-        ∙ split (word n f) (2 ^ p) (bit (f n)) 0 (word-lt f n) (pow-lt m)
-        ∙ ap₂ (λ (x y : ℕ). x * 2 ^ n + y)
-        (or-zero-r (bit (f n)) ∙ sym (ap bit (or-false (f n) (eqb n p) (ne-eqb n p (λ z. omega arith)))))
-        (ih m)
-        ∙ sym (word-split h n)
-
--- no bit at m or above: the word is below 2 ^ m; a bit at p: it is at least 2 ^ p
-word-below : (f : ℕ → Bool) (n m : ℕ) → ((k : ℕ) → k < n → m ≤ k → f k ≡ false) → word n f < 2 ^ m
+-- the word of one bit
+pub word-one : (n p : ℕ) → p < n → word n (λ q. eqb q p) ≡ 2 ^ p
 unfolding word
-word-below f zero m q = pow-pos m
-word-below f (suc n) m q = go (decLe m n) (word-below f n m (λ k l. q k (omega arith)))
+word-one zero p l = absurd (not-suc-le-zero l)
+word-one (suc n) p l = go (last-or-below n p l) (word-one n p)
   where
-    go : Dec (m ≤ n) → word n f < 2 ^ m → cond (f n) (2 ^ n) 0 + word n f < 2 ^ m
-    go (yes l) ih = rw (q n (omega arith) l) (omega arith)
-    go (no l) ih = lt-of-lt-of-le (word-lt f (suc n)) (pow-mono (omega arith))
+    go : (p ≡ n) ⊎ (p < n) → (p < n → word n (λ q. eqb q p) ≡ 2 ^ p) → cond (eqb n p) (2 ^ n) 0 + word n (λ q. eqb q p) ≡ 2 ^ p
+    go (inl e) ih = rw (eq-eqb n p (sym e), word-none (λ q. eqb q p) n (λ q m. ne-eqb q p (omega arith)), e, add-zero)
+    go (inr m) ih = rw (ne-eqb n p (omega arith), ih m, zero-add)
 
-word-has : (f : ℕ → Bool) (n p : ℕ) → p < n → f p ≡ true → 2 ^ p ≤ word n f
-unfolding word
-word-has f zero p l t = absurd (not-suc-le-zero l)
-word-has f (suc n) p l t = go (last-or-below n p l) (word-has f n p)
+-- one more bit by `|`
+pub or-word : (f : ℕ → Bool) (n p : ℕ) → p < n → bitOr (word n f) (2 ^ p) ≡ word n (λ q. f q || eqb q p)
+or-word f n p l = ap (bitOr (word n f)) (sym (word-one n p l)) ∙ or-words f (λ q. eqb q p) n
+
+-- for p below 64 the bit comes by `w | (1 << p)`
+pub withBit-or : (w p : ℕ) → w < 2 ^ 64 → p < 64 → bitOr w ((1 * 2 ^ p) % 2 ^ 64) ≡ withBit w p
+unfolding withBit
+withBit-or w p h l = ap₂ bitOr (sym (word-bits w 64 h)) (rw one-mul (mod-eq-of-lt (pow-lt l))) ∙ or-word (bit w) 64 p l
+
+-- for any other p the word is as it was
+pub withBit-above : (w p : ℕ) → w < 2 ^ 64 → 64 ≤ p → withBit w p ≡ w
+unfolding withBit
+withBit-above w p h l =
+    word-same (λ q. bit w q || eqb q p) (bit w) 64 (λ q m. rw (ne-eqb q p (omega arith)) (or-false (bit w q))) ∙ word-bits w 64 h
+
+-- a test's word with bit p is the word of the test that passes at p too
+pub withBit-word : (f : ℕ → Bool) (p : ℕ) → withBit (word 64 f) p ≡ word 64 (λ q. f q || eqb q p)
+unfolding withBit
+withBit-word f p =
+    word-same (λ q. bit (word 64 f) q || eqb q p) (λ q. f q || eqb q p) 64 (λ q l. ap (λ (b : Bool). b || eqb q p) (bit-word f 64 q l))
+
+-- the ones of a test's word are as many as pass
+pub ones-word : (f : ℕ → Bool) (n : ℕ) → ones (word n f) ≡ count n f
+unfolding word count ones
+ones-word f zero = refl
+ones-word f (suc n) =
+    ap ones (word-split f n) ∙ ones-cat n (digit (f n)) (word n f) (word-lt f n) ∙ ap₂ (λ (a b : ℕ). a + b) (go (f n)) (ones-word f n)
   where
-    go : (p ≡ n) ⊎ (p < n) → (p < n → f p ≡ true → 2 ^ p ≤ word n f) → 2 ^ p ≤ cond (f n) (2 ^ n) 0 + word n f
-    go (inl e) ih = rw (e, ap f (sym e) ∙ t) (omega arith)
-    go (inr m) ih = let i = ih m t in omega arith
+    go : (b : Bool) → ones (digit b) ≡ digit b
+    go true = refl
+    go false = refl
 
--- the leading zeros of the word stand above the greatest that passes
-pub leading-word : (f : ℕ → Bool) (n p : ℕ) → Most f (λ i. i) n p → leadingZeros n (word n f) ≡ n - suc p
-leading-word f n p w =
-    let low = word-has f n p (w .below) (w .passes) in
-    sym (leading-unique n (word n f) (n - suc p) (suc p) (omega arith)
-    (word-below f n (suc p) (λ k l m. fails (f k) (λ t. omega (arith, w .tops k l t))))
-    (rw pow-suc (omega arith)))
+-- the ones of a number below 2 ^ n are as many as its set bits
+pub ones-bits : (w n : ℕ) → w < 2 ^ n → ones w ≡ count n (bit w)
+ones-bits w n l = ap ones (sym (word-bits w n l)) ∙ ones-word (bit w) n
+
+-- a test's word has as many set bits as pass
+pub count-bits : (f : ℕ → Bool) (n : ℕ) → count n (bit (word n f)) ≡ count n f
+count-bits f n = count-same (bit (word n f)) f n (bit-word f n)
+
+-- 0 has no highest bit
+pub highest-none : (n d : ℕ) → greatest n (bit 0) d ≡ d
+highest-none n d = greatest-none (bit 0) n d (none-passes (bit 0) n (λ k l. bit-above 0 0 k (omega arith) zero-le))
+
+-- above the highest bit of another number stand its leading zeros
+pub highest-some : (w n d : ℕ) → 0 < w → w < 2 ^ n → leadingZeros n w + suc (greatest n (bit w) d) ≡ n
+unfolding bit
+highest-some w n d h l =
+    let t = leading-top n w h l in
+    let j = t .0 in
+    let one : w / 2 ^ j ≡ 1 = div-eq-of-lt-le (2 ^ j) (rw one-mul (t .2)) (rw pow-succ' at (t .3)) in
+    rw (greatest-is (bit w) n d j (record {
+      below = omega (arith, t .1);
+      passes = rw one;
+      tops = λ i m q. le-of-suc-le-suc (lt-of-not-le (λ (g : suc j ≤ i). clash q (bit-above w (suc j) i (t .3) g)));
+    })) (t .1)
+
+-- the highest bit of a test's word is the greatest that passes
+pub highest-word : (f : ℕ → Bool) (n d : ℕ) → greatest n (bit (word n f)) d ≡ greatest n f d
+highest-word f n d = greatest-same (bit (word n f)) f n d (bit-word f n)
+
+-- the word that a loop over numbered things collects: thing k, where it is ok, sets the bit that is its key
+module _ (ok : ℕ → Bool) (key : ℕ → ℕ) where
+  -- some thing below i is ok and has the key p
+  abbrev pub keyed : ℕ → ℕ → Bool
+  keyed i p = some i (λ k. ok k && eqb (key k) p)
+
+  -- before the first thing the word is 0
+  pub keyed-none : (n : ℕ) → word n (keyed 0) ≡ 0
+  unfolding some
+  keyed-none n = word-none (keyed 0) n (λ p l. refl)
+
+  keyed-next : (n i : ℕ) → ok i ≡ true → word n (λ p. keyed i p || eqb p (key i)) ≡ word n (keyed (suc i))
+  unfolding some
+  keyed-next n i e =
+      word-same (λ p. keyed i p || eqb p (key i)) (keyed (suc i)) n
+      (λ p _. rw e (or-comm (keyed i p) (eqb p (key i)) ∙ ap (λ (b : Bool). b || keyed i p) (eqb-swap p (key i))))
+
+  -- a thing that is ok sets its bit by `|`
+  pub keyed-set : (n i : ℕ) → ok i ≡ true → key i < n → bitOr (word n (keyed i)) (2 ^ key i) ≡ word n (keyed (suc i))
+  keyed-set n i e l = or-word (keyed i) n (key i) l ∙ keyed-next n i e
+
+  -- or by `with_bit`, whatever its key
+  pub keyed-with : (i : ℕ) → ok i ≡ true → withBit (word 64 (keyed i)) (key i) ≡ word 64 (keyed (suc i))
+  keyed-with i e = withBit-word (keyed i) (key i) ∙ keyed-next 64 i e
+
+  -- another leaves the word as it is
+  pub keyed-skip : (n i : ℕ) → ok i ≡ false → word n (keyed i) ≡ word n (keyed (suc i))
+  unfolding some
+  keyed-skip n i e = word-same (keyed i) (keyed (suc i)) n (λ p _. rw e)

@@ -1,1 +1,29 @@
-// 64-bit words: a bit set, the ones, the highest bit. Knows nothing of scheduling.
+// 64-bit words: a bit set, the ones, the highest bit.
+// Each function has one answer for every input, and `proofs/Word.antt` has the laws by which a caller reads it.
+ghost use mathlib.Core.Path.{_≡_};
+ghost use Rattle.bits.specs.Below.{count, greatest, bit};
+ghost use Rattle.bits.specs.Word.{withBit};
+
+// The word with bit p set too; for p of 64 or more the word as it is.
+pub fn with_bit(w: u64, p: u32) -> u64
+    ensures { λ r. ⌜ r ≡ withBit w p ⌝ }
+{
+    if p < 64 { w | (1u64 << p) } else { w }
+}
+
+// How many bits of the word are set.
+pub fn ones(w: u64) -> u32
+    ensures { λ r. ⌜ r ≡ count 64 (bit w) ⌝ }
+{
+    u64::count_ones(w)
+}
+
+// The number of the highest set bit, or 64 where no bit is set.
+pub fn highest(w: u64) -> u32
+    ensures { λ r. ⌜ r ≡ greatest 64 (bit w) 64 ⌝ }
+{
+    if w == 0 {
+        return 64;
+    }
+    63 - u64::leading_zeros(w)
+}

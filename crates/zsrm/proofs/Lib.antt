@@ -1,12 +1,3 @@
-pub mod Refusals
-pub mod Accepted
-pub mod Places
-pub mod Tick
-pub mod Consistent
-pub mod Ready
-pub mod Replay
-pub mod Steady
-pub mod OurRun
-pub mod Demand3
-pub mod Topmost
+pub mod Promise
 pub mod Traced
+pub mod Laws

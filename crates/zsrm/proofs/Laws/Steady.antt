@@ -1,5 +1,5 @@
--- Where a tick is no scheduling schedulingInstant, the eligible jobs, and so the candidates, are those of the tick before.
--- So an entry that was legal stays a candidate, and our run, which takes the lowest candidate, is a legal claimFrom.
+-- Where a tick is no scheduling instant, the eligible jobs, and so the candidates, are those of the tick before.
+-- So an entry that was legal stays a candidate, and our run, which takes the lowest candidate, is a legal claim.
 use Prim.Native.Nat.{_<_, suc, ℕ, _≤_}
 use mathlib.Core.Bool.{_&&_, Bool, cond, false, not, true, _||_}
 use mathlib.Core.Logic.{inl, inr, _⊎_}
@@ -17,10 +17,10 @@ use Rattle.zsrm.specs.declared.record.Standing.the-variants.{Ended, Fini
 use Rattle.zsrm.specs.Legal.{dispatched, finishedAt, schedulingInstant, turns}
 use Rattle.zsrm.specs.Record.{arrived, arriving, consistent, doneAt, opening, standingAt}
 use Rattle.zsrm.specs.Tables.{Given, arrival, idle, jobCount, jobCriticality, zeroSlackInstant}
-use Rattle.zsrm.specs.Tick.{advanced, alive, candidate, choice, eligible, ends, finishes, goesOn, higherPriority, moreCritical, over, pastZeroSlack, someJob, standingAfter, suspended, unfinished}
-use Rattle.zsrm.proofs.Consistent.{Sound, arrived-read, away, sound-at}
-use Rattle.zsrm.proofs.Places.{standing-advanced}
-use Rattle.zsrm.proofs.Tick.{eligible-alive, eligible-tops}
+use Rattle.zsrm.specs.Tick.{advanced, alive, candidate, choice, eligible, ends, finishes, goesOn, higherPriority, moreCritical, pastZeroSlack, someJob, standingAfter, suspended, unfinished}
+use Rattle.zsrm.proofs.Laws.Consistent.{Sound, arrived-read, away, sound-at}
+use Rattle.zsrm.proofs.Laws.Places.{standing-advanced}
+use Rattle.zsrm.proofs.Laws.Tick.{eligible-alive, eligible-tops, eligible-unended, top-eligible}
 
 module _ (g : Given) (r : Record) (e p : ℕ) (few : jobCount (g .jobs) ≤ 64) (sound : consistent g r ≡ true) (still : schedulingInstant g (advanced g r e) p ≡ false) where
   -- the tick after brings nothing for the job j
@@ -92,23 +92,11 @@ module _ (g : Given) (r : Record) (e p : ℕ) (few : jobCount (g .jobs) ≤ 64) 
       let a = still-alive j l (and-left (alive r j) _ h) n in
       search passes
 
-  -- an eligible job is not ended, and the most critical job past zero slack is not
-  ends-below : (j : ℕ) → ends g r e j ≡ true → (i : ℕ) × (i < jobCount (g .jobs)) × (pastZeroSlack g r i ≡ true) × (jobCriticality g j < jobCriticality g i)
-  unfolding ends someJob over moreCritical
-  ends-below j h =
-      let w = some-found (λ i. over g r e i && moreCritical g i j) (jobCount (g .jobs)) (search passed) in
-      let x = w .2 in
-      (w .0, w .1, search passed depth 7, search passed)
-
   eligible-stays : (j : ℕ) → j < jobCount (g .jobs) → eligible g r j ≡ true → eligible g (advanced g r e) j ≡ true
   unfolding eligible suspended someJob moreCritical
   eligible-stays j l h =
-      let lives = still-alive j l (eligible-alive g r j h) unended in
-      and-true lives (not-of (fails _ frees))
+      and-true (still-alive j l (eligible-alive g r j h) (eligible-unended g r e j h)) (not-of (fails _ frees))
     where
-      unended : ends g r e j ≡ false
-      unended = fails (ends g r e j) (λ x. let w = ends-below j x in omega (arith, w .3, eligible-tops g r j (w .0) (w .1) h (w .2)))
-
       frees : (alive (advanced g r e) j && some (jobCount (g .jobs)) (λ i. pastZeroSlack g (advanced g r e) i && moreCritical g i j)) ≡ true → ⊥
       frees x =
           let w = some-found (λ i. pastZeroSlack g (advanced g r e) i && moreCritical g i j) (jobCount (g .jobs)) (and-right (alive (advanced g r e) j) _ x) in
@@ -126,9 +114,8 @@ module _ (g : Given) (r : Record) (e p : ℕ) (few : jobCount (g .jobs) ≤ 64) 
           let y = w .2 in
           let more : jobCriticality g j < jobCriticality g (w .0) = search passed in
           let m = most (pastZeroSlack g r) (jobCriticality g) (jobCount (g .jobs)) (w .0) (w .1) (and-left (pastZeroSlack g r (w .0)) _ y) in
-          let unended : ends g r e (m .0) ≡ false = fails (ends g r e (m .0)) (λ z. let v = ends-below (m .0) z in omega (arith, v .3, m .1 .tops (v .0) (v .1) (v .2))) in
           omega
-          (arith, m .1 .tops (w .0) (w .1) (and-left (pastZeroSlack g r (w .0)) _ y), eligible-tops g (advanced g r e) j (m .0) (m .1 .below) h (past-after (m .0) (m .1 .below) (m .1 .passes) unended))
+          (arith, m .1 .tops (w .0) (w .1) (and-left (pastZeroSlack g r (w .0)) _ y), eligible-tops g (advanced g r e) j (m .0) (m .1 .below) h (past-after (m .0) (m .1 .below) (m .1 .passes) (eligible-unended g r e (m .0) (top-eligible g r (m .0) (m .1)))))
 
   pub eligible-same : (j : ℕ) → j < jobCount (g .jobs) → eligible g (advanced g r e) j ≡ eligible g r j
   eligible-same j l = same-test (eligible g (advanced g r e) j) (eligible g r j) (eligible-was j l) (eligible-stays j l)

@@ -6,7 +6,7 @@ use mathlib.Core.Logic.{inl, inr, _⊎_}
 use mathlib.Core.Path.{ap, refl, sym, _∙_, _≡_}
 use native.Mathlib.Omega.{arith}
 use lib.Dec.{eqb, leb, ltb}
-use borrow.Author.Tests.{eqb-false, eqb-true, le-leb, leb-false, lt-ltb}
+use borrow.Author.Tests.{eqb-false, eqb-true, le-leb, leb-false, leb-true, lt-ltb}
 use Rattle.bits.proofs.Below.{every-at, every-true, some-found}
 use Rattle.bits.proofs.Bools.{and-false, and-left, and-right, and-true, by-cond, clash, either, or-cases, passed, passes}
 use Rattle.zsrm.specs.declared.record.Record.{Record}
@@ -17,9 +17,9 @@ use Rattle.zsrm.specs.Legal.{dispatched}
 use Rattle.zsrm.specs.Record.{arrived, arriving, consistent, doneAt, fresh, isSE, opening, soundAt, soundPlace, standingAt}
 use Rattle.zsrm.specs.Tables.{Given, arrival, execution, idle, jobCount}
 use Rattle.zsrm.specs.Tick.{advanced, alive, candidate, doneAfter, ends, finishes, goesOn, moreCritical, over, someJob, standingAfter, unfinished}
-use Rattle.zsrm.proofs.Accepted.{job}
-use Rattle.zsrm.proofs.Places.{done-advanced, done-fresh, standing-advanced, standing-fresh, tick-advanced, tick-fresh}
-use Rattle.zsrm.proofs.Tick.{candidate-eligible, eligible-alive}
+use Rattle.zsrm.proofs.Laws.Accepted.{job}
+use Rattle.zsrm.proofs.Laws.Places.{done-advanced, done-fresh, standing-advanced, standing-fresh, tick-advanced, tick-fresh}
+use Rattle.zsrm.proofs.Laws.Tick.{candidate-eligible, eligible-alive}
 
 -- what a sound place says, by its standing
 module _ (m : Mode) (jobs : List ℕ) (t j done : ℕ) where
@@ -232,3 +232,19 @@ advanced-consistent g r e b d h =
     (λ j l. sound-from g (advanced g r e) j
     (rw (done-advanced g r e j l, standing-advanced g r e j l, tick-advanced g r e)
     (keeps-place g r e (only-alive g r e d) j l (standingAt r j) refl (sound-at g r h j l))))
+
+pub consistent-tick : (g : Given) (r : Record) → consistent g r ≡ true → r .tick ≤ 16384
+unfolding consistent
+consistent-tick g r h = leb-true (r .tick) 16384 (and-left (leb (r .tick) 16384) _ h)
+
+-- a job that has arrived and is neither finished nor ended is alive
+pub pending-alive : (g : Given) (r : Record) → consistent g r ≡ true → (j : ℕ) → j < jobCount (g .jobs) → jobCount (g .jobs) ≤ 64 → arrival (g .jobs) j ≤ r .tick
+    → ((f : ℕ) → standingAt r j ≡ Finished f → ⊥) → ((e : ℕ) → standingAt r j ≡ Ended e → ⊥) → alive r j ≡ true
+unfolding alive unfinished
+pending-alive g r ok j l few a nf ne = go (standingAt r j) refl (sound-at g r ok j (omega arith))
+  where
+    go : (s : Standing) → standingAt r j ≡ s → Sound (g .mode) (g .jobs) (r .tick) j (doneAt r j) s → unfinished s ≡ true
+    go NotArrived q w = absurd (omega (arith, away (g .jobs) (r .tick) j l (w .away)))
+    go Unfinished q w = refl
+    go (Finished f) q w = absurd (nf f q)
+    go (Ended e) q w = absurd (ne e q)

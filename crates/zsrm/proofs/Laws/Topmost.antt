@@ -1,19 +1,18 @@
 -- Demand 3, second part: a task that is strictly more critical than every other, with Z + Co ≤ D. Each of its jobs whose
--- arrival + Z + c lies within the horizon is finished by then, in every legal claimFrom and either mode.
+-- arrival + Z + c lies within the horizon is finished by then, in every legal claim and either mode.
 use Prim.Native.Nat.{_+_, _<_, suc, ℕ, _≤_}
-use mathlib.Core.Bool.{_&&_, Bool, cond, false, true, _||_}
+use mathlib.Core.Bool.{_&&_, cond, false, true}
 use mathlib.Core.List.{List}
 use mathlib.Core.Logic.{inl, inr, _⊎_}
 use mathlib.Core.Path.{ap, refl, subst, sym, _∙_, _≡_}
 use native.Mathlib.Decide.{decLe, decLt, ℕ-discrete}
 use native.Mathlib.Omega.{arith}
-use lib.Dec.{eqb, ltb}
+use lib.Dec.{eqb}
 use lib.ListN.{length}
 use lib.Seq.{take-length}
-use borrow.Author.Tests.{eq-eqb, eqb-true, ltb-true}
-use Rattle.bits.specs.Below.{every}
-use Rattle.bits.proofs.Below.{every-at, some-found}
-use Rattle.bits.proofs.Bools.{and-left, by-cond, clash, either, or-cases, passed}
+use borrow.Author.Tests.{eq-eqb}
+use Rattle.bits.proofs.Below.{some-found}
+use Rattle.bits.proofs.Bools.{and-left, by-cond, clash, either, passed}
 use Rattle.zsrm.specs.declared.answers.Claim.the-variants.{Legal}
 use Rattle.zsrm.specs.declared.answers.Outcome.the-variants.{Done}
 use Rattle.zsrm.specs.declared.record.Record.{Record}
@@ -23,15 +22,14 @@ use Rattle.zsrm.specs.Legal.{claim, dispatched}
 use Rattle.zsrm.specs.Record.{arrived, arriving, consistent, doneAt, fresh, opening, standingAt}
 use Rattle.zsrm.specs.Refusals.{checkJobs, checkTasks}
 use Rattle.zsrm.specs.Run.{recordAt, replay, replayed}
-use Rattle.zsrm.specs.Tables.{Given, arrival, criticality, deadline, execution, idle, jobCount, jobCriticality, overload, period, taskCount, taskOf, zeroSlack, zeroSlackInstant}
+use Rattle.zsrm.specs.Tables.{Given, arrival, criticality, deadline, deadlineInstant, execution, idle, jobCount, jobCriticality, overload, period, taskOf, zeroSlack, zeroSlackInstant}
 use Rattle.zsrm.specs.Tick.{advanced, alive, doneAfter, ends, finishes, goesOn, moreCritical, over, someJob, standingAfter, unfinished}
-use Rattle.zsrm.specs.Topmost.{assured, topmost}
-use Rattle.zsrm.proofs.Accepted.{apart, few-jobs, job, task}
-use Rattle.zsrm.proofs.Consistent.{Running, Sound, advanced-consistent, arrived-read, away, done-idle, done-ran, fresh-consistent, sound-at}
-use Rattle.zsrm.proofs.Demand3.{legal-dispatch, past-of}
-use Rattle.zsrm.proofs.Places.{done-advanced, done-fresh, standing-advanced, standing-fresh, tick-advanced, tick-fresh}
-use Rattle.zsrm.proofs.Replay.{kept-at, tick-replay}
-use Rattle.zsrm.proofs.Tick.{dispatch-serves}
+use Rattle.zsrm.specs.Topmost.{Topmost, assured}
+use Rattle.zsrm.proofs.Laws.Accepted.{apart, few-jobs, job, task}
+use Rattle.zsrm.proofs.Laws.Consistent.{Running, Sound, advanced-consistent, arrived-read, away, done-idle, done-ran, fresh-consistent, sound-at}
+use Rattle.zsrm.proofs.Laws.Places.{done-advanced, done-fresh, standing-advanced, standing-fresh, tick-advanced, tick-fresh}
+use Rattle.zsrm.proofs.Laws.Replay.{kept-at, legal-dispatch, tick-replay}
+use Rattle.zsrm.proofs.Laws.Tick.{dispatch-serves, past-of}
 
 pub alive-unfinished : (r : Record) (j : ℕ) → alive r j ≡ true → standingAt r j ≡ Unfinished
 unfolding alive unfinished
@@ -43,26 +41,7 @@ alive-unfinished r j a = go (standingAt r j) a
     go (Finished f) u = clash u refl
     go (Ended e) u = clash u refl
 
--- strictly more critical than every other task, and Z + Co within D
-pub record Topmost (tasks : List ℕ) (k : ℕ) : Type 0 where
-  pub known : k < taskCount tasks
-  pub above : (i : ℕ) → i < taskCount tasks → (i ≡ k → ⊥) → criticality tasks i < criticality tasks k
-  pub fits : zeroSlack tasks k + overload tasks k ≤ deadline tasks k
-
-pub topmost-read : (tasks : List ℕ) (k : ℕ) → topmost tasks k ≡ true → Topmost tasks k
-unfolding topmost
-topmost-read tasks k h =
-    let all : every (taskCount tasks) higher ≡ true = search passed in
-    record { known = search passed; above = λ i l n. go i n (or-cases (eqb i k) _ (every-at higher (taskCount tasks) i l all)); fits = search passed }
-  where
-    higher : ℕ → Bool
-    higher i = eqb i k || ltb (criticality tasks i) (criticality tasks k)
-
-    go : (i : ℕ) → (i ≡ k → ⊥) → (eqb i k ≡ true) ⊎ (ltb (criticality tasks i) (criticality tasks k) ≡ true) → criticality tasks i < criticality tasks k
-    go i n (inl e) = absurd (n (eqb-true i k e))
-    go i n (inr q) = ltb-true (criticality tasks i) (criticality tasks k) q
-
--- on its way to that schedulingInstant, by its standing at the tick t
+-- on its way to that instant, by its standing at the tick t
 module _ (g : Given) (t j done : ℕ) where
   abbrev pub OnTime : Standing → Type 0
   OnTime NotArrived = Unit {0}
@@ -248,7 +227,7 @@ module _ (g : Given) (k : ℕ) (okTasks : checkTasks (g .tasks) ≡ Done) (okJob
             (stays r (h .sound) e d (h .timely) j o (standingAt r j) refl (sound-at g r (h .sound) j (small j o)) (h .timely j o));
       }
 
-  -- a good record whose tick has reached the schedulingInstant: the job is finished by then
+  -- a good record whose tick has reached the instant: the job is finished by then
   pub finished-by : (r : Record) → Good r → (j : ℕ) → Own j → assured g j ≤ r .tick → (f : ℕ) × (standingAt r j ≡ Finished f) × (f ≤ assured g j)
   unfolding assured
   finished-by r h j o l = go (standingAt r j) refl (sound-at g r (h .sound) j (small j o)) (h .timely j o)
@@ -260,13 +239,22 @@ module _ (g : Given) (k : ℕ) (okTasks : checkTasks (g .tasks) ≡ Done) (okJob
       go (Finished f) q w t = (f, q, t)
       go (Ended x) q w t = absurd t
 
-  -- (ii)
-  pub demand3-ii : (es : List ℕ) → length es ≤ 16384 → claim g es ≡ Legal → (j : ℕ) → Own j → assured g j ≤ length es
+  -- (ii), of any legal schedule
+  pub topmost-finished : (es : List ℕ) → length es ≤ 16384 → claim g es ≡ Legal → (j : ℕ) → Own j → assured g j ≤ length es
       → (f : ℕ) × (standingAt (replayed g es) j ≡ Finished f) × (f ≤ assured g j)
   unfolding claim replayed recordAt
-  demand3-ii es b c j o l =
+  topmost-finished es b c j o l =
       let end : Good (replay g (fresh (g .jobs)) es) =
       rw take-length at
       (kept-at g 16384 Good (λ r p e u v w. advanced-good r e u (legal-dispatch g r p e v) w) (fresh (g .jobs)) idle es
       (rw tick-fresh (omega arith)) c fresh-good (length es)) in
       finished-by (replay g (fresh (g .jobs)) es) end j o (omega (arith, tick-replay g (fresh (g .jobs)) es))
+
+-- what is assured lies within the deadline
+pub assured-in-time : (g : Given) (k : ℕ) → checkJobs (g .tasks) (g .jobs) ≡ Done → Topmost (g .tasks) k → (j : ℕ) → j < jobCount (g .jobs) → taskOf (g .jobs) j ≡ k
+    → assured g j ≤ deadlineInstant g j
+unfolding assured deadlineInstant zeroSlackInstant
+assured-in-time g k okJobs top j l its =
+    let c = job (g .tasks) (g .jobs) okJobs j l .within in
+    let fits = subst (λ (x : ℕ). zeroSlack (g .tasks) x + overload (g .tasks) x ≤ deadline (g .tasks) x) (sym its) (top .fits) in
+    omega arith

@@ -1,18 +1,19 @@
--- Demand 3, first part: from its zero-slack schedulingInstant on, while a job is alive, no tick goes to a less critical job or to none.
--- It holds of any record and any legal entry, whatever led to the record.
+-- The laws of one tick, at any record, whatever led to it: who is alive, past zero slack, eligible, a candidate; that a legal entry
+-- serves every job past zero slack; that the job that runs is not ended.
 use Prim.Native.Nat.{_<_, ℕ, _≤_}
-use mathlib.Core.Bool.{_&&_, not, true}
+use mathlib.Core.Bool.{_&&_, false, not, true}
 use mathlib.Core.Logic.{inl, inr, _⊎_}
 use mathlib.Core.Path.{_≡_}
+use native.Mathlib.Omega.{arith}
 use lib.Dec.{eqb, ltb}
-use borrow.Author.Tests.{ltb-false, ltb-true, not-true}
-use Rattle.bits.proofs.Below.{some-false, some-true}
-use Rattle.bits.proofs.Bools.{and-false, and-false-right, and-left, and-right, and-true, clash, not-of, or-cases}
+use borrow.Author.Tests.{le-leb, ltb-false, ltb-true, not-true}
+use Rattle.bits.proofs.Below.{some-false, some-found, some-true}
+use Rattle.bits.proofs.Bools.{and-false, and-false-right, and-left, and-right, and-true, clash, fails, not-of, or-cases, passed}
 use Rattle.bits.proofs.Most.{Most, most, none-greater}
 use Rattle.zsrm.specs.declared.record.Record.{Record}
 use Rattle.zsrm.specs.Legal.{dispatched}
-use Rattle.zsrm.specs.Tables.{Given, idle, jobCount, jobCriticality, jobPriority}
-use Rattle.zsrm.specs.Tick.{alive, candidate, eligible, higherPriority, moreCritical, pastZeroSlack, someJob, suspended}
+use Rattle.zsrm.specs.Tables.{Given, idle, jobCount, jobCriticality, jobPriority, zeroSlackInstant}
+use Rattle.zsrm.specs.Tick.{alive, candidate, eligible, ends, higherPriority, moreCritical, over, pastZeroSlack, someJob, suspended}
 
 module _ (g : Given) (r : Record) where
   -- the same facts as tests passed, for a job below the job count
@@ -75,3 +76,34 @@ module _ (g : Given) (r : Record) where
           let w = most (pastZeroSlack g r) (jobCriticality g) (jobCount (g .jobs)) j l q in
           clash (some-candidate (w .0) (w .1 .below) (top-eligible (w .0) (w .1)))
           (not-true (someJob g (candidate g r)) (and-right (eqb e idle) _ c))
+
+pub past-of : (g : Given) (r : Record) (j : ℕ) → alive r j ≡ true → zeroSlackInstant g j ≤ r .tick → pastZeroSlack g r j ≡ true
+unfolding pastZeroSlack
+past-of g r j a z = and-true a (le-leb (zeroSlackInstant g j) (r .tick) z)
+
+-- a job that is ended is strictly less critical than some job past zero slack
+pub record EndedBy (g : Given) (r : Record) (j i : ℕ) : Type 0 where
+  pub job : i < jobCount (g .jobs)
+  pub past : pastZeroSlack g r i ≡ true
+  pub more : jobCriticality g j < jobCriticality g i
+
+pub ends-by : (g : Given) (r : Record) (e j : ℕ) → ends g r e j ≡ true → (i : ℕ) × EndedBy g r j i
+unfolding ends someJob over moreCritical
+ends-by g r e j h =
+    let w = some-found (λ i. over g r e i && moreCritical g i j) (jobCount (g .jobs)) (search passed) in
+    let x = w .2 in
+    (w .0, record { job = w .1; past = search passed depth 7; more = search passed })
+
+-- no eligible job is ended in its tick
+pub eligible-unended : (g : Given) (r : Record) (e j : ℕ) → eligible g r j ≡ true → ends g r e j ≡ false
+eligible-unended g r e j h =
+    fails (ends g r e j) (λ x. let w = ends-by g r e j x in omega (arith, w .1 .more, eligible-tops g r j (w .0) (w .1 .job) h (w .1 .past)))
+
+-- the job that runs is not ended in its own tick
+pub runs-unended : (g : Given) (r : Record) (e : ℕ) → e < jobCount (g .jobs) → jobCount (g .jobs) ≤ 64 → dispatched g r e ≡ true → ends g r e e ≡ false
+unfolding dispatched
+runs-unended g r e l few d = go (or-cases (ltb e (jobCount (g .jobs)) && candidate g r e) _ d)
+  where
+    go : ((ltb e (jobCount (g .jobs)) && candidate g r e) ≡ true) ⊎ ((eqb e idle && not (someJob g (candidate g r))) ≡ true) → ends g r e e ≡ false
+    go (inl c) = eligible-unended g r e e (candidate-eligible g r e (search passed))
+    go (inr c) = let i : e ≡ idle = search passed in absurd (omega arith)

@@ -16,7 +16,7 @@ use Rattle.zsrm.specs.declared.answers.Outcome.the-variants.{Done}
 use Rattle.zsrm.specs.Refusals.{before, check2, check3, check4, check5, check6, check7, check8, checkJobs, checkTasks, outside, preceding}
 use Rattle.zsrm.specs.Tables.{arrival, criticality, deadline, execution, jobCount, nominal, overload, period, priority, taskCount, taskOf, zeroSlack}
 use Rattle.zsrm.specs.Traced.{both}
-use Rattle.zsrm.proofs.Refusals.{ascending-at, before-first, before-second, fine, refuse-fine}
+use Rattle.zsrm.proofs.Laws.Refusals.{ascending-at, before-first, before-second, fine, refuse-fine}
 
 module _ (tasks : List ℕ) (ok : checkTasks tasks ≡ Done) where
   -- every field of an accepted task is in its range, and C ≤ Co, D ≤ T, Z ≤ D
@@ -89,6 +89,7 @@ module _ (tasks jobs : List ℕ) (ok : checkJobs tasks jobs ≡ Done) where
 
   pub record Job (j : ℕ) : Type 0 where
     pub known : taskOf jobs j < taskCount tasks
+    pub early : arrival jobs j ≤ 16384
     pub within : execution jobs j ≤ overload tasks (taskOf jobs j)
     pub apart : (ltb (preceding jobs j) j && ltb (arrival jobs j) (arrival jobs (preceding jobs j) + period tasks (taskOf jobs j))) ≡ false
 
@@ -98,7 +99,7 @@ module _ (tasks jobs : List ℕ) (ok : checkJobs tasks jobs ≡ Done) where
       let each = ascending-at (λ i. before (check6 tasks jobs i) (before (check7 tasks jobs i) (check8 tasks jobs i))) (jobCount jobs) j l (before-second (check5 jobs) _ ok) in
       let six = refuse-fine _ _ _ (before-first (check6 tasks jobs j) _ each) in
       let eight = refuse-fine _ _ _ (before-second (check7 tasks jobs j) _ (before-second (check6 tasks jobs j) _ each)) in
-      record { known = ltb-true (taskOf jobs j) (taskCount tasks) (search fine); within = search fine; apart = eight }
+      record { known = ltb-true (taskOf jobs j) (taskCount tasks) (search fine); early = search fine; within = search fine; apart = eight }
 
   -- any two jobs of one task, and not only successive ones, lie at least T apart
   Apart : ℕ → Type 0

@@ -1,17 +1,17 @@
--- The ready word: its ones are the reported count, and its leading zeros give the top eligible priority, so a candidate is an eligible
--- job of that priority.
-use Prim.Native.Nat.{_-_, _<_, ℕ, _≤_}
+-- The ready word: its ones are the reported count, and its highest bit is the top eligible priority, so that a candidate is an
+-- eligible job of that priority.
+use Prim.Native.Nat.{_<_, ℕ, _≤_}
 use mathlib.Core.Bool.{_&&_, not, true}
 use mathlib.Core.Path.{refl, _≡_}
 use native.Mathlib.Omega.{arith}
-use lib.Count.{leadingZeros, ones}
+use lib.Count.{ones}
 use lib.Dec.{eqb, ltb}
 use borrow.Author.Tests.{eq-eqb, ltb-false, not-true}
-use Rattle.bits.specs.Below.{some, word}
+use Rattle.bits.specs.Below.{greatest, some}
 use Rattle.bits.proofs.Below.{some-false, some-found, some-true}
 use Rattle.bits.proofs.Bools.{and-false, and-left, and-right, and-true, fails, not-of, passed, same-test}
-use Rattle.bits.proofs.Most.{Most, most}
-use Rattle.bits.proofs.Word.{leading-word, ones-word}
+use Rattle.bits.proofs.Most.{Most, greatest-found}
+use Rattle.bits.proofs.Word.{ones-word}
 use Rattle.zsrm.specs.declared.record.Record.{Record}
 use Rattle.zsrm.specs.Tables.{Given, jobCount, jobPriority}
 use Rattle.zsrm.specs.Tick.{candidate, eligible, higherPriority, readyAt, readyCount, readyWord, someJob}
@@ -29,23 +29,17 @@ module _ (g : Given) (r : Record) where
 
   -- the priorities fit the word
   module _ (fit : (j : ℕ) → j < jobCount (g .jobs) → jobPriority g j < 64) where
-    -- where a job is eligible, the top priority is the greatest that is ready
-    pub top-ready : (j : ℕ) → j < jobCount (g .jobs) → eligible g r j ≡ true → Most (readyAt g r) (λ p. p) 64 (63 - leadingZeros 64 (readyWord g r))
-    unfolding readyWord
-    top-ready j l h =
-        let w = most (readyAt g r) (λ p. p) 64 (jobPriority g j) (fit j l) (ready-of j l h) in
-        let b = w .1 .below in
-        let z = leading-word (readyAt g r) 64 (w .0) (w .1) in
-        let e : 63 - leadingZeros 64 (word 64 (readyAt g r)) ≡ w .0 = omega arith in
-        rw e (w .1)
+    -- where a job is eligible, the word's highest bit is the greatest priority that is ready
+    pub top-ready : (j : ℕ) → j < jobCount (g .jobs) → eligible g r j ≡ true → Most (readyAt g r) (λ p. p) 64 (greatest 64 (readyAt g r) 64)
+    top-ready j l h = greatest-found (readyAt g r) 64 64 (jobPriority g j) (fit j l) (ready-of j l h)
 
     pub candidate-top : (j : ℕ) → j < jobCount (g .jobs)
-        → candidate g r j ≡ (eligible g r j && eqb (jobPriority g j) (63 - leadingZeros 64 (readyWord g r)))
+        → candidate g r j ≡ (eligible g r j && eqb (jobPriority g j) (greatest 64 (readyAt g r) 64))
     unfolding candidate someJob higherPriority readyAt
     candidate-top j l = same-test _ _ there back
       where
         top : ℕ
-        top = 63 - leadingZeros 64 (readyWord g r)
+        top = greatest 64 (readyAt g r) 64
 
         there : (eligible g r j && not (some (jobCount (g .jobs)) (λ i. eligible g r i && ltb (jobPriority g j) (jobPriority g i)))) ≡ true
             → (eligible g r j && eqb (jobPriority g j) top) ≡ true

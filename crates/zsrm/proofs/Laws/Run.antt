@@ -1,4 +1,4 @@
--- A run is a legal claimFrom, from the fresh record and from any consistent record at which its first entry is legal, for any way to
+-- A run is a legal claim, from the fresh record and from any consistent record at which its first entry is legal, for any way to
 -- choose that stays with its choice between scheduling instants; our run's is one. A run made in two parts is the run.
 use Prim.Native.Nat.{_+_, suc, zero, ℕ, _≤_}
 use mathlib.Core.Bool.{_&&_, false, not, true, _||_}
@@ -17,13 +17,13 @@ use Rattle.zsrm.specs.declared.answers.Claim.the-variants.{Legal}
 use Rattle.zsrm.specs.declared.record.Record.{Record}
 use Rattle.zsrm.specs.Legal.{claim, claimFrom, dispatched, legalEntry, schedulingInstant}
 use Rattle.zsrm.specs.Record.{consistent, fresh}
-use Rattle.zsrm.specs.Run.{entries, entriesBy, replay}
+use Rattle.zsrm.specs.Run.{entries, entriesBy, replay, runEntries}
 use Rattle.zsrm.specs.Tables.{Given, idle, jobCount}
 use Rattle.zsrm.specs.Tick.{advanced, candidate, choice, someJob}
-use Rattle.zsrm.proofs.Consistent.{advanced-consistent, fresh-consistent}
-use Rattle.zsrm.proofs.Places.{tick-advanced, tick-fresh}
-use Rattle.zsrm.proofs.Replay.{claim-goes-on}
-use Rattle.zsrm.proofs.Steady.{choice-same}
+use Rattle.zsrm.proofs.Laws.Consistent.{advanced-consistent, fresh-consistent}
+use Rattle.zsrm.proofs.Laws.Places.{tick-advanced, tick-fresh}
+use Rattle.zsrm.proofs.Laws.Replay.{claim-goes-on}
+use Rattle.zsrm.proofs.Laws.Steady.{choice-same}
 
 module _ (g : Given) where
   pub choice-dispatch : (r : Record) → dispatched g r (choice g r) ≡ true
@@ -41,7 +41,7 @@ module _ (g : Given) where
       go (inl s) = let w = least-found (candidate g r) n idle s in or-left _ (and-true (lt-ltb x n (w .0)) (w .1))
       go (inr s) = or-right (ltb x n && candidate g r x) (and-true (eq-eqb x idle (least-none (candidate g r) n idle s)) (not-of s))
 
-  -- a way to choose that takes what may be taken, and stays with it while the next tick is no scheduling schedulingInstant
+  -- a way to choose that takes what may be taken, and stays with it while the next tick is no scheduling instant
   pub record Steadfast (pick : Record → ℕ) : Type 0 where
     pub takes : (r : Record) → dispatched g r (pick r) ≡ true
     pub stays : (r : Record) → consistent g r ≡ true → schedulingInstant g (advanced g r (pick r)) (pick r) ≡ false → pick (advanced g r (pick r)) ≡ pick r
@@ -59,7 +59,7 @@ module _ (g : Given) where
         go (inl i) = or-left _ (or-right (eqb (after .tick) 0) i)
         go (inr q) = or-right (eqb (after .tick) 0 || schedulingInstant g after (pick r)) (eq-eqb (pick after) (pick r) (s .stays r sound q))
 
-    -- its run is a legal claimFrom from any consistent record at which its first entry is legal
+    -- its run is a legal claim from any consistent record at which its first entry is legal
     pub run-legal : (n : ℕ) (r : Record) (p : ℕ) → r .tick + n ≤ 16384 → consistent g r ≡ true → legalEntry g r p (pick r) ≡ true
         → claimFrom g r p (entriesBy g pick r n) ≡ Legal
     unfolding claimFrom entriesBy
@@ -81,8 +81,8 @@ module _ (g : Given) where
   pub lowest-steadfast : jobCount (g .jobs) ≤ 64 → Steadfast (choice g)
   lowest-steadfast few = record { takes = choice-dispatch; stays = λ r sound q. choice-same g r (choice g r) (choice g r) few sound q }
 
-  pub our-run-legal : jobCount (g .jobs) ≤ 64 → (horizon : ℕ) → horizon ≤ 16384 → claim g (entries g (fresh (g .jobs)) horizon) ≡ Legal
-  unfolding entries
+  pub our-run-legal : jobCount (g .jobs) ≤ 64 → (horizon : ℕ) → horizon ≤ 16384 → claim g (runEntries g horizon) ≡ Legal
+  unfolding runEntries entries
   our-run-legal few h b = run-legal-fresh (choice g) (lowest-steadfast few) h b
 
   -- running a ticks and then b is running a + b: for any way to choose
@@ -101,3 +101,7 @@ module _ (g : Given) where
   unfolding entriesBy
   length-entries pick zero r = refl
   length-entries pick (suc n) r = ap suc (length-entries pick n (advanced g r (pick r)))
+
+  pub length-run : (horizon : ℕ) → length (runEntries g horizon) ≡ horizon
+  unfolding runEntries entries
+  length-run horizon = length-entries (choice g) horizon (fresh (g .jobs))

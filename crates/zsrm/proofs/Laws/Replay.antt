@@ -1,24 +1,31 @@
--- A legal claimFrom, tick by tick: the record before each entry is the replay of the entries before it, and each entry is legal there.
+-- A legal claim, tick by tick: the record before each entry is the replay of the entries before it, and each entry is legal there.
 -- An invariant that each legal entry keeps holds of every such record.
 use Prim.Native.Nat.{_+_, _<_, suc, zero, ℕ, _≤_}
 use mathlib.Core.Bool.{false, true}
 use mathlib.Core.List.{List, [], _∷_}
 use mathlib.Core.Logic.{inl, inr, _⊎_}
-use mathlib.Core.Path.{sym, _∙_, _≡_}
+use mathlib.Core.Path.{ap, sym, _∙_, _≡_}
 use native.Mathlib.Nat.{not-suc-le-zero}
 use native.Mathlib.Omega.{arith}
-use lib.ListN.{getD, length}
-use Rattle.bits.proofs.Bools.{either}
+use lib.ListN.{getD, length, length-take, take}
+use lib.Seq.{take-length}
+use Rattle.bits.proofs.Bools.{and-left, either}
 use Rattle.zsrm.specs.declared.answers.Claim.the-variants.{Legal, NotLegal}
 use Rattle.zsrm.specs.declared.record.Record.{Record}
-use Rattle.zsrm.specs.Legal.{claimFrom, legalEntry}
-use Rattle.zsrm.specs.Run.{recordAt, replay}
+use Rattle.zsrm.specs.Legal.{claimFrom, dispatched, legalEntry}
+use Rattle.zsrm.specs.Record.{fresh}
+use Rattle.zsrm.specs.Run.{recordAt, recordBefore, replay, replayed}
 use Rattle.zsrm.specs.Tables.{Given, idle}
 use Rattle.zsrm.specs.Tick.{advanced}
-use Rattle.zsrm.proofs.Places.{tick-advanced}
+use Rattle.zsrm.proofs.Laws.Places.{tick-advanced}
+
+-- a legal entry is a candidate, or idle with no candidate
+pub legal-dispatch : (g : Given) (r : Record) (p e : ℕ) → legalEntry g r p e ≡ true → dispatched g r e ≡ true
+unfolding legalEntry
+legal-dispatch g r p e h = and-left (dispatched g r e) _ h
 
 module _ (g : Given) where
-  -- the two steps of a claimFrom
+  -- the two steps of a claim
   pub claim-goes-on : (r : Record) (p e : ℕ) (es : List ℕ) → legalEntry g r p e ≡ true → claimFrom g r p (e ∷ es) ≡ claimFrom g (advanced g r e) e es
   unfolding claimFrom
   claim-goes-on r p e es q = rw (q, claimFrom)
@@ -27,7 +34,7 @@ module _ (g : Given) where
   unfolding claimFrom
   claim-stops r p e es q = rw (q, claimFrom)
 
-  -- the first entry of a legal claimFrom is legal, and the rest is a legal claimFrom from the advanced record
+  -- the first entry of a legal claim is legal, and the rest is a legal claim from the advanced record
   pub claim-first : (r : Record) (p e : ℕ) (es : List ℕ) → claimFrom g r p (e ∷ es) ≡ Legal → legalEntry g r p e ≡ true
   claim-first r p e es c = go (either (legalEntry g r p e))
     where
@@ -45,7 +52,7 @@ module _ (g : Given) where
   legal-at r p (e ∷ es) c zero h = claim-first r p e es c
   legal-at r p (e ∷ es) c (suc t) h = legal-at (advanced g r e) e es (claim-rest r p e es c) t (omega arith)
 
-  -- not legal at t: t is a tick of the claimFrom, its entry is not legal there, and every entry before it is
+  -- not legal at t: t is a tick of the claim, its entry is not legal there, and every entry before it is
   pub record FirstBad (r : Record) (p : ℕ) (es : List ℕ) (t k : ℕ) : Type 0 where
     pub tick : t ≡ r .tick + k
     pub within : k < length es
@@ -83,7 +90,7 @@ module _ (g : Given) where
   tick-replay r [] = omega arith
   tick-replay r (e ∷ es) = let ih = tick-replay (advanced g r e) es in omega arith
 
-  -- what each legal entry at a tick below the limit keeps holds before each entry of a legal claimFrom, and after the last
+  -- what each legal entry at a tick below the limit keeps holds before each entry of a legal claim, and after the last
   module _ (limit : ℕ) (P : Record → Type 0)
       (keeps : (r : Record) (p e : ℕ) → r .tick < limit → legalEntry g r p e ≡ true → P r → P (advanced g r e)) where
     pub kept-at : (r : Record) (p : ℕ) (es : List ℕ) → r .tick + length es ≤ limit → claimFrom g r p es ≡ Legal → P r → (t : ℕ) → P (recordAt g r es t)
@@ -93,3 +100,12 @@ module _ (g : Given) where
     kept-at r p (e ∷ es) b c h zero = h
     kept-at r p (e ∷ es) b c h (suc t) =
         kept-at (advanced g r e) e es (omega arith) (claim-rest r p e es c) (keeps r p e (omega arith) (claim-first r p e es c) h) t
+
+pub tick-recordBefore : (g : Given) (es : List ℕ) (t : ℕ) → t ≤ length es → recordBefore g es t .tick ≡ t
+unfolding recordBefore recordAt fresh
+tick-recordBefore g es t h = tick-replay g (fresh (g .jobs)) (take t es) ∙ simp length-take (omega arith)
+
+-- the record before the tick after the last is the one at the end
+pub replayed-is : (g : Given) (es : List ℕ) (n : ℕ) → length es ≡ n → recordBefore g es n ≡ replayed g es
+unfolding recordBefore recordAt replayed
+replayed-is g es n e = ap (λ (x : ℕ). replay g (fresh (g .jobs)) (take x es)) (sym e) ∙ rw take-length

@@ -1,0 +1,93 @@
+-- What an answer that is no refusal says of the checks, and what acceptance says of the lists.
+use Prim.Native.Nat.{_<_, ℕ, _≤_}
+use mathlib.Core.Bool.{not, true}
+use mathlib.Core.List.{List, [], _∷_}
+use mathlib.Core.Path.{ap, refl, sym, _∙_, _≡_}
+use native.Mathlib.Omega.{arith}
+use lib.Dec.{eqb}
+use lib.ListN.{length}
+use borrow.Author.Tests.{eqb-true, le-leb, lt-ltb, ltb-false, not-false}
+use Rattle.zsrm.specs.declared.answers.Outcome.{Outcome}
+use Rattle.zsrm.specs.declared.answers.Outcome.the-variants.{Done, Refused}
+use Rattle.zsrm.specs.declared.answers.Verdict.the-variants.{Met}
+use Rattle.zsrm.specs.declared.record.Record.{Record}
+use Rattle.zsrm.specs.declared.record.Standing.the-variants.{Finished}
+use Rattle.zsrm.specs.Answers.{checkGiven, checkSchedule, checkVerdict, claimAnswer, claimSaid, runSchedule, unless, verdictAnswer}
+use Rattle.zsrm.specs.Legal.{claim}
+use Rattle.zsrm.specs.Record.{consistent, standingAt}
+use Rattle.zsrm.specs.Refusals.{before, check10, check11, check13, check9, checkJobs, checkLists, checkTasks, refuse}
+use Rattle.zsrm.specs.Run.{runEntries}
+use Rattle.zsrm.specs.Tables.{Given, deadlineInstant, jobCount}
+use Rattle.zsrm.specs.Verdict.{judged, verdict}
+use Rattle.zsrm.proofs.Laws.Accepted.{few-jobs}
+use Rattle.zsrm.proofs.Laws.Refusals.{before-first, before-second, refuse-fine}
+use Rattle.zsrm.proofs.Laws.Run.{length-run, our-run-legal}
+use Rattle.zsrm.proofs.Laws.Said.{claim-said}
+use Rattle.zsrm.specs.declared.answers.Claim.the-variants as claims
+
+module _ {A : Type 0} (refused : ℕ → ℕ → A) (answer : A) where
+  pub unless-done : (o : Outcome) → o ≡ Done → unless o refused answer ≡ answer
+  unfolding unless
+  unless-done o e = ap (λ (x : Outcome). unless x refused answer) e
+
+-- what an accepted schedule says of its input
+pub record Accepted (g : Given) (horizon : ℕ) (schedule : List ℕ) : Type 0 where
+  pub lists : checkGiven g ≡ Done
+  pub tasks : checkTasks (g .tasks) ≡ Done
+  pub jobs : checkJobs (g .tasks) (g .jobs) ≡ Done
+  pub bounded : horizon ≤ 16384
+  pub whole : length schedule ≡ horizon
+
+pub accepted : (g : Given) (horizon : ℕ) (schedule : List ℕ) → checkSchedule g horizon schedule ≡ Done → Accepted g horizon schedule
+unfolding checkSchedule checkGiven checkLists check9 check10
+accepted g h es ok =
+    let lists = before-first (checkLists (g .tasks) (g .jobs)) _ ok in
+    let rest = before-second (checkLists (g .tasks) (g .jobs)) _ ok in
+    let nine = refuse-fine _ _ _ (before-first (check9 h) _ rest) in
+    let ten = refuse-fine _ _ _ (before-second (check9 h) _ rest) in
+    record {
+      lists = lists;
+      tasks = before-first (checkTasks (g .tasks)) _ lists;
+      jobs = before-second (checkTasks (g .tasks)) _ lists;
+      bounded = ltb-false 16384 h nine;
+      whole = eqb-true (length es) h (not-false (eqb (length es) h) ten);
+    }
+
+-- another list of the same length is accepted too
+pub accepted-again : (g : Given) (horizon : ℕ) (lent es : List ℕ) → length es ≡ horizon → checkSchedule g horizon lent ≡ Done → checkSchedule g horizon es ≡ Done
+unfolding checkSchedule check10
+accepted-again g horizon lent es n ok =
+    let same : length lent ≡ length es = accepted g horizon lent ok .whole ∙ sym n in
+    ap (λ (x : ℕ). before (checkGiven g) (before (check9 horizon) (refuse (not (eqb x horizon)) 10 0))) (sym same) ∙ ok
+
+-- a claim that is answered legal was accepted, and is legal
+pub record LegalClaim (g : Given) (horizon : ℕ) (schedule : List ℕ) : Type 0 where
+  pub input : Accepted g horizon schedule
+  pub legal : claim g schedule ≡ claims.Legal
+
+pub is-legal : (g : Given) (horizon : ℕ) (schedule : List ℕ) → claimSaid (claimAnswer g horizon schedule) ≡ 0 ∷ [] → LegalClaim g horizon schedule
+unfolding claimSaid claimAnswer unless
+is-legal g horizon schedule e =
+    go (checkSchedule g horizon schedule) refl (claim-said (claimAnswer g horizon schedule) claims.Legal e)
+  where
+    go : (o : Outcome) → checkSchedule g horizon schedule ≡ o → unless o claims.Refused (claim g schedule) ≡ claims.Legal → LegalClaim g horizon schedule
+    go Done q c = record { input = accepted g horizon schedule q; legal = c }
+    go (Refused n p) q c = let z : _≡_ {A = ℕ} 0 1 = cc in absurd (omega arith)
+
+-- a job that is finished by its deadline is judged met
+pub met-answer : (g : Given) → checkGiven g ≡ Done → (r : Record) → consistent g r ≡ true → (j : ℕ) → j < jobCount (g .jobs)
+    → (f : ℕ) → standingAt r j ≡ Finished f → f ≤ deadlineInstant g j → verdictAnswer g r j ≡ Met
+unfolding verdictAnswer checkVerdict check11 check13 verdict judged refuse before unless
+met-answer g lists r sound j l f q b =
+    rw (lists, sound, lt-ltb j (jobCount (g .jobs)) l, q, le-leb f (deadlineInstant g j) b)
+
+-- what a run that is not refused writes is a legal claim
+pub run-claim : (g : Given) (horizon : ℕ) (lent : List ℕ) → checkSchedule g horizon lent ≡ Done
+    → claimAnswer g horizon (runSchedule g horizon lent) ≡ claims.Legal
+unfolding runSchedule claimAnswer
+run-claim g horizon lent ok =
+    let a = accepted g horizon lent ok in
+    let es = runEntries g horizon in
+    let mine : checkSchedule g horizon es ≡ Done = accepted-again g horizon lent es (length-run g horizon) ok in
+    rw (unless-done (λ number place. lent) es (checkSchedule g horizon lent) ok)
+    (unless-done claims.Refused (claim g es) (checkSchedule g horizon es) mine ∙ our-run-legal g (few-jobs (g .tasks) (g .jobs) (a .jobs)) horizon (a .bounded))

@@ -1,0 +1,86 @@
+-- Equal numbers are equal answers: each enum's answers are read back from their numbers.
+use Prim.Native.Nat.{_+_, _-_, ℕ}
+use mathlib.Core.Bool.{cond}
+use mathlib.Core.List.{List, [], _∷_}
+use mathlib.Core.Path.{ap, refl, sym, _∙_, _≡_}
+use native.Mathlib.Omega.{arith}
+use lib.Dec.{eqb, ltb}
+use borrow.Author.Tests.{le-ltb}
+use Rattle.zsrm.specs.declared.answers.Claim.{Claim}
+use Rattle.zsrm.specs.declared.answers.Outcome.{Outcome}
+use Rattle.zsrm.specs.declared.answers.Verdict.{Verdict}
+use Rattle.zsrm.specs.declared.answers.Witness.{Witness}
+use Rattle.zsrm.specs.Answers.{claimSaid, outcomeSaid, verdictSaid, witnessSaid}
+use Rattle.zsrm.specs.Traced.{said}
+use Rattle.zsrm.specs.declared.answers.Outcome.the-variants as outcomes
+use Rattle.zsrm.specs.declared.answers.Claim.the-variants as claims
+use Rattle.zsrm.specs.declared.answers.Verdict.the-variants as verdicts
+use Rattle.zsrm.specs.declared.answers.Witness.the-variants as witnesses
+
+-- two numbers are a refusal; one number is read by its own table
+module _ {A : Type 0} (refused : ℕ → ℕ → A) (one : ℕ → A) where
+  back : List ℕ → A
+  back [] = one 0
+  back (x ∷ []) = one x
+  back (n ∷ p ∷ rest) = refused n p
+
+-- what can be read back is told apart
+told : {A : Type 0} (said : A → List ℕ) (read : List ℕ → A) → ((a : A) → read (said a) ≡ a) → (a b : A) → said a ≡ said b → a ≡ b
+told said read h a b e = sym (h a) ∙ ap read e ∙ h b
+
+notLegalOr : {A : Type 0} → (ℕ → A) → (ℕ → A) → ℕ → A
+notLegalOr notLegal small x = cond (ltb x 65536) (small x) (notLegal (x - 65536))
+
+not-legal-back : {A : Type 0} (notLegal small : ℕ → A) (t : ℕ) → notLegalOr notLegal small (65536 + t) ≡ notLegal t
+unfolding notLegalOr
+not-legal-back notLegal small t = rw (le-ltb (65536 + t) 65536 (omega arith)) (ap notLegal (omega arith))
+
+outcomeOf : List ℕ → Outcome
+outcomeOf = back outcomes.Refused (λ x. outcomes.Done)
+
+pub outcome-said : (a b : Outcome) → outcomeSaid a ≡ outcomeSaid b → a ≡ b
+unfolding outcomeSaid outcomeOf back
+outcome-said = told outcomeSaid outcomeOf again
+  where
+    again : (a : Outcome) → outcomeOf (outcomeSaid a) ≡ a
+    again outcomes.Done = refl
+    again (outcomes.Refused n p) = refl
+
+claimOf : List ℕ → Claim
+claimOf = back claims.Refused (notLegalOr claims.NotLegal (λ x. claims.Legal))
+
+pub claim-said : (a b : Claim) → claimSaid a ≡ claimSaid b → a ≡ b
+unfolding claimSaid claimOf back notLegalOr
+claim-said = told claimSaid claimOf again
+  where
+    again : (a : Claim) → claimOf (claimSaid a) ≡ a
+    again (claims.Refused n p) = refl
+    again claims.Legal = refl
+    again (claims.NotLegal t) = not-legal-back claims.NotLegal (λ x. claims.Legal) t
+
+verdictOf : List ℕ → Verdict
+verdictOf = back verdicts.Refused (λ x. cond (eqb x 0) verdicts.Met (cond (eqb x 1) verdicts.Late (cond (eqb x 2) verdicts.Ended verdicts.Open)))
+
+pub verdict-said : (a b : Verdict) → verdictSaid a ≡ verdictSaid b → a ≡ b
+unfolding verdictSaid verdictOf back
+verdict-said = told verdictSaid verdictOf again
+  where
+    again : (a : Verdict) → verdictOf (verdictSaid a) ≡ a
+    again (verdicts.Refused n p) = refl
+    again verdicts.Met = refl
+    again verdicts.Late = refl
+    again verdicts.Ended = refl
+    again verdicts.Open = refl
+
+witnessOf : List ℕ → Witness
+witnessOf = back witnesses.Refused (notLegalOr witnesses.NotLegal (λ x. cond (eqb x 0) witnesses.Accepted witnesses.NotMissed))
+
+pub witness-said : (a b : Witness) → witnessSaid a ≡ witnessSaid b → a ≡ b
+unfolding witnessSaid witnessOf back notLegalOr
+witness-said = told witnessSaid witnessOf again
+  where
+    again : (a : Witness) → witnessOf (witnessSaid a) ≡ a
+    again (witnesses.Refused n p) = refl
+    again (witnesses.NotLegal t) = not-legal-back witnesses.NotLegal (λ x. cond (eqb x 0) witnesses.Accepted witnesses.NotMissed) t
+    again witnesses.NotMissed = refl
+    again witnesses.Accepted = refl

@@ -1,0 +1,90 @@
+-- The promises, for every input, either mode, and every legal schedule, ours and any other. Read this file first.
+--
+-- `claimAnswer g horizon schedule` is what the claim check answers, `runAnswer` and `runSchedule` what our run does; `..Said` says an
+-- answer in document 01's numbers, 0 ∷ [] being "done", "legal" and "met". `recordBefore g schedule t` is the record before tick t of
+-- the schedule, and `replayed g schedule` the one at its end. All of them are definitions of specs/.
+use Prim.Native.Nat.{_<_, ℕ, _≤_}
+use mathlib.Core.Bool.{true}
+use mathlib.Core.List.{List, [], _∷_}
+use mathlib.Core.Path.{ap, subst, _≡_}
+use native.Mathlib.Omega.{arith}
+use lib.ListN.{getD}
+use Rattle.zsrm.specs.declared.answers.Outcome.the-variants.{Done}
+use Rattle.zsrm.specs.declared.record.Record.{Record}
+use Rattle.zsrm.specs.declared.record.Standing.the-variants.{Ended, Finished}
+use Rattle.zsrm.specs.Answers.{checkSchedule, claimAnswer, claimSaid, outcomeSaid, ran, runAnswer, runSchedule, verdictAnswer, verdictSaid}
+use Rattle.zsrm.specs.Legal.{claim}
+use Rattle.zsrm.specs.Record.{consistent, fresh, standingAt}
+use Rattle.zsrm.specs.Run.{recordBefore, replayed}
+use Rattle.zsrm.specs.Tables.{Given, deadlineInstant, idle, jobCount, jobCriticality, taskOf, zeroSlackInstant}
+use Rattle.zsrm.specs.Topmost.{Topmost, assured}
+use Rattle.zsrm.proofs.Laws.Accepted.{few-jobs, job}
+use Rattle.zsrm.proofs.Laws.Answers.{is-legal, met-answer, run-claim}
+use Rattle.zsrm.proofs.Laws.Consistent.{advanced-consistent, fresh-consistent, pending-alive}
+use Rattle.zsrm.proofs.Laws.Places.{tick-fresh}
+use Rattle.zsrm.proofs.Laws.Replay.{kept-at, legal-at, legal-dispatch, replayed-is, tick-recordBefore}
+use Rattle.zsrm.proofs.Laws.Said.{outcome-said}
+use Rattle.zsrm.proofs.Laws.Tick.{dispatch-serves, past-of}
+use Rattle.zsrm.proofs.Laws.Topmost.{assured-in-time, topmost-finished}
+
+-- Our run's schedule is legal: where the run is done, the claim check answers legal on what it wrote.
+pub run-is-legal : (g : Given) (horizon : ℕ) (lent : List ℕ) → outcomeSaid (runAnswer g horizon lent .outcome) ≡ 0 ∷ []
+    → claimSaid (claimAnswer g horizon (runSchedule g horizon lent)) ≡ 0 ∷ []
+unfolding runAnswer ran outcomeSaid claimSaid
+run-is-legal g horizon lent done = ap claimSaid (run-claim g horizon lent (outcome-said (checkSchedule g horizon lent) Done done))
+
+-- What follows is of any schedule that the claim check answers legal.
+module _ (g : Given) (horizon : ℕ) (schedule : List ℕ) (legal : claimSaid (claimAnswer g horizon schedule) ≡ 0 ∷ []) where
+  -- The record before each of its ticks, and the one at its end, is consistent.
+  pub always-consistent : (t : ℕ) → consistent g (recordBefore g schedule t) ≡ true
+  unfolding claim recordBefore
+  always-consistent t =
+      let c = is-legal g horizon schedule legal in
+      let a = c .input in
+      kept-at g 16384 (λ r. consistent g r ≡ true) (λ r p e b l s. advanced-consistent g r e b (legal-dispatch g r p e l) s) (fresh (g .jobs)) idle
+      schedule (rw tick-fresh (omega arith)) (c .legal) (fresh-consistent g) t
+
+  -- A job that is neither finished nor ended at t.
+  pub record Pending (t j : ℕ) : Type 0 where
+    pub not-finished : (f : ℕ) → standingAt (recordBefore g schedule t) j ≡ Finished f → ⊥
+    pub not-ended : (e : ℕ) → standingAt (recordBefore g schedule t) j ≡ Ended e → ⊥
+
+  -- The tick t is not idle, and does not go to a job less critical than j.
+  pub record Served (t j : ℕ) : Type 0 where
+    pub not-idle : getD schedule t idle ≡ idle → ⊥
+    pub a-job : getD schedule t idle < jobCount (g .jobs)
+    pub no-less : jobCriticality g j ≤ jobCriticality g (getD schedule t idle)
+
+  -- (i) From a job's zero-slack instant until it finishes or is ended, no tick is idle and none goes to a less critical job.
+  pub served : (t j : ℕ) → t < horizon → j < jobCount (g .jobs) → zeroSlackInstant g j ≤ t → Pending t j → Served t j
+  unfolding claim recordBefore zeroSlackInstant
+  served t j h l z wait =
+      let c = is-legal g horizon schedule legal in
+      let a = c .input in
+      let few = few-jobs (g .tasks) (g .jobs) (a .jobs) in
+      let here : recordBefore g schedule t .tick ≡ t = tick-recordBefore g schedule t (omega arith) in
+      let lives = pending-alive g (recordBefore g schedule t) (always-consistent t) j l few (omega arith) (wait .not-finished) (wait .not-ended) in
+      let w = dispatch-serves g (recordBefore g schedule t) (getD schedule t idle) j
+      (legal-dispatch g (recordBefore g schedule t) _ (getD schedule t idle) (legal-at g (fresh (g .jobs)) idle schedule (c .legal) t (omega arith))) l
+      (past-of g (recordBefore g schedule t) j lives (omega arith)) in
+      record { not-idle = λ e. omega arith; a-job = w .job; no-less = w .no-less }
+
+  -- (ii) If one task is strictly more critical than all others and its zero-slack offset plus overload time is within its deadline,
+  -- each of its jobs finishes by arrival + offset + its own execution time, if the horizon reaches that far ..
+  module _ (k : ℕ) (top : Topmost (g .tasks) k) (j : ℕ) (l : j < jobCount (g .jobs)) (its : taskOf (g .jobs) j ≡ k) where
+    pub finishes-by : assured g j ≤ horizon → (f : ℕ) × (standingAt (replayed g schedule) j ≡ Finished f) × (f ≤ assured g j)
+    finishes-by h =
+        let c = is-legal g horizon schedule legal in
+        let a = c .input in
+        topmost-finished g k (a .tasks) (a .jobs) top schedule (omega arith) (c .legal) j (record { job = l; its = its }) (omega arith)
+
+    -- .. and so is judged met, where its deadline lies within the horizon.
+    pub meets : deadlineInstant g j ≤ horizon → verdictSaid (verdictAnswer g (replayed g schedule) j) ≡ 0 ∷ []
+    unfolding verdictSaid
+    meets h =
+        let c = is-legal g horizon schedule legal in
+        let a = c .input in
+        let t = assured-in-time g k (a .jobs) top j l its in
+        let w = finishes-by (omega arith) in
+        let end : consistent g (replayed g schedule) ≡ true = subst (λ (r : Record). consistent g r ≡ true) (replayed-is g schedule horizon (a .whole)) (always-consistent horizon) in
+        ap verdictSaid (met-answer g (a .lists) (replayed g schedule) end j l (w .0) (w .1) (omega (arith, w .2)))
