@@ -1,4 +1,5 @@
 pub mod Tables
+pub mod Fields
 pub mod Refusals
 pub mod Record
 pub mod Tick

@@ -1,4 +1,4 @@
--- Document 01, "Traced schedules": the cases marked P, as one table. What a case says is set beside what the entry points answer.
+-- Document 01, "Traced schedules": the cases marked P, and one of ours, as one table. What a case says is set beside what the entry points answer.
 use Prim.Native.Nat.{ℕ}
 use mathlib.Core.List.{List, [], _∷_, _++_, map}
 use lib.ListN.{replicate}
@@ -98,7 +98,28 @@ onEquals m =
           };
     }
 
--- the cases 1 to 9, and 10 in either mode
+-- A case of ours, for the last of document 01's easy errors: from tick 4 on job 1, which suspends job 0, is itself suspended by job 2,
+-- and job 0 stays suspended.
+abbrev pub nested : Case
+nested =
+    record {
+      setting = given S
+          (20 ∷ 20 ∷ 4 ∷ 4 ∷ 1 ∷ 3 ∷ 20 ∷ 20 ∷ 20 ∷ 4 ∷ 4 ∷ 2 ∷ 2 ∷ 2 ∷ 20 ∷ 20 ∷ 3 ∷ 3 ∷ 3 ∷ 1 ∷ 4 ∷ [])
+          (0 ∷ 0 ∷ 4 ∷ 1 ∷ 0 ∷ 4 ∷ 2 ∷ 0 ∷ 3 ∷ []);
+      horizon = 12;
+      claims = [];
+      trace =
+          record {
+            outcome = Done;
+            entries = 0 ∷ 0 ∷ 1 ∷ 1 ∷ 2 ∷ 2 ∷ 2 ∷ 1 ∷ 1 ∷ 0 ∷ 0 ∷ idle ∷ [];
+            standings = Finished 11 ∷ Finished 9 ∷ Finished 7 ∷ [];
+            verdicts = Met ∷ Met ∷ Met ∷ [];
+            own = Legal;
+            further = [];
+          };
+    }
+
+-- the cases 1 to 9, 10 in either mode, and ours
 unfoldable pub table : List Case
 table =
     onFig1 S (listA 5) 16 (0 ∷ 0 ∷ 0 ∷ 0 ∷ 1 ∷ 1 ∷ 1 ∷ 1 ∷ 2 ∷ 2 ∷ 1 ∷ 2 ∷ 2 ∷ idle ∷ idle ∷ idle ∷ [])
@@ -122,4 +143,5 @@ table =
     (Finished 4 ∷ Finished 16 ∷ Ended 11 ∷ Finished 20 ∷ []) (Met ∷ Met ∷ EndedV ∷ Met ∷ [])
     ∷ onEquals S
     ∷ onEquals SE
+    ∷ nested
     ∷ []

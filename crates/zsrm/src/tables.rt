@@ -1,4 +1,8 @@
-// Document 01, "Tables and lists": the scheduler's mode and the two scales of a task, which are kept apart.
+// Document 01, "Tables and lists": the scheduler's mode, the two scales of a task, which are kept apart, and the fields of tasks and
+// jobs. A field past a list's end is 0.
+ghost use mathlib.Core.Path.{_≡_};
+ghost use lib.ListN.{getD};
+ghost use Rattle.zsrm.specs.Fields.{taskAt, jobAt};
 
 // ZSRM-S suspends; ZSRM-SE suspends and ends.
 pub enum Mode {
@@ -11,3 +15,54 @@ pub struct Priority(pub u32);
 
 // Larger matters more. No priority is one.
 pub struct Criticality(pub u32);
+
+// The number at place i, or 0 past the list's end.
+fn at(list: &[u32], i: usize) -> u32
+    ensures { λ r. ⌜ r ≡ getD (now (list .entry)) i 0 ⌝ }
+{
+    if i < list.len() { list[i] } else { 0 }
+}
+
+// A task's fields.
+pub(crate) struct Task {
+    pub period: u32,
+    pub deadline: u32,
+    pub nominal: u32,
+    pub overload: u32,
+    pub criticality: Criticality,
+    pub priority: Priority,
+    pub slack: u32,
+}
+
+pub(crate) fn task_at(tasks: &[u32], k: u32) -> Task
+    ensures { λ r. ⌜ r ≡ taskAt (now (tasks .entry)) k ⌝ }
+{
+    let first = 7 * (k as usize);
+    Task {
+        period: at(tasks, first),
+        deadline: at(tasks, first + 1),
+        nominal: at(tasks, first + 2),
+        overload: at(tasks, first + 3),
+        criticality: Criticality(at(tasks, first + 4)),
+        priority: Priority(at(tasks, first + 5)),
+        slack: at(tasks, first + 6),
+    }
+}
+
+// A job's fields.
+pub(crate) struct Job {
+    pub task: u32,
+    pub arrival: u32,
+    pub execution: u32,
+}
+
+pub(crate) fn job_at(jobs: &[u32], j: u32) -> Job
+    ensures { λ r. ⌜ r ≡ jobAt (now (jobs .entry)) j ⌝ }
+{
+    let first = 3 * (j as usize);
+    Job {
+        task: at(jobs, first),
+        arrival: at(jobs, first + 1),
+        execution: at(jobs, first + 2),
+    }
+}
