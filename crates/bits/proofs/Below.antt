@@ -1,16 +1,17 @@
 -- The laws of the tests over the numbers below a bound, as a proof about a definition, or a loop, asks for them.
 -- A law by the name of a definition and -same says that tests that agree below the bound give it one answer.
-use Prim.Native.Nat.{ℕ, zero, suc, _+_, _<_}
-use mathlib.Core.Path.{_≡_, refl, sym, ap, ap₂, _∙_, subst}
-use mathlib.Core.Logic.{_⊎_, inl, inr}
-use mathlib.Core.Bool.{Bool, true, false, _||_, cond, false≢true}
-use mathlib.Core.List.{List, [], _∷_, _++_}
-use native.Mathlib.Omega.{arith}
+use Prim.Native.Nat.{_+_, _<_, suc, zero, ℕ, _≤_}
+use mathlib.Core.Bool.{Bool, cond, false, false≢true, true, _||_}
+use mathlib.Core.List.{_++_, List, [], _∷_}
+use mathlib.Core.Logic.{inl, inr, _⊎_}
+use mathlib.Core.Path.{ap, ap₂, refl, subst, sym, _∙_, _≡_}
 use native.Mathlib.Decide.{ℕ-discrete}
-use native.Mathlib.Nat.{not-suc-le-zero, add-zero, add-suc, suc-add}
-use lib.ListN.{length, getD}
-use Rattle.bits.specs.Below.{some, every, least, greatest, count, listFrom}
-use Rattle.bits.proofs.Bools.{either, fails, clash, and-left, and-right, and-true, or-left, or-right, or-cases, or-left-false, or-right-false, or-false-right}
+use native.Mathlib.Nat.{add-suc, add-zero, not-suc-le-zero, suc-add}
+use native.Mathlib.Numerals.{add-one}
+use native.Mathlib.Omega.{arith}
+use lib.ListN.{getD, length}
+use Rattle.bits.specs.Below.{count, every, greatest, least, listFrom, some}
+use Rattle.bits.proofs.Bools.{and-left, and-right, and-true, clash, either, fails, or-cases, or-false-right, or-left, or-left-false, or-right, or-right-false}
 
 -- a number below suc n is n or below n
 pub last-or-below : (n k : ℕ) → k < suc n → (k ≡ n) ⊎ (k < n)
@@ -164,3 +165,12 @@ module _ {A : Type 0} (f : ℕ → A) where
 
   pub list-snoc : (n : ℕ) → listFrom 0 (suc n) f ≡ listFrom 0 n f ++ (f n ∷ [])
   list-snoc n = listFrom-snoc 0 n ∙ ap {B = List A} (λ (k : ℕ). listFrom 0 n f ++ (f k ∷ [])) (omega arith)
+
+-- an upward search as a loop meets it: none below j passes, and b tells whether j does
+module _ (f : ℕ → Bool) where
+  pub scan-on : (j : ℕ) (b : Bool) → some j f ≡ false → b ≡ f j → b ≡ false → some (j + 1) f ≡ false
+  unfolding some
+  scan-on j b p q e = rw (add-one, some, sym q ∙ e) p
+
+  pub scan-end : (n j : ℕ) → j ≤ n → n ≤ j → some j f ≡ false → some n f ≡ false
+  scan-end n j a b p = ap (λ (k : ℕ). some k f) (let e : n ≡ j = omega arith in e) ∙ p

@@ -1,21 +1,22 @@
 -- The laws of words and their bits: a word is fixed by its bits, and a word made from a test answers as the test does.
 -- A caller cites these and opens neither `word`, `bit` nor `withBit`.
-use Prim.Native.Nat.{ℕ, zero, suc, _+_, _*_, _/_, _%_, _^_, _≤_, _<_, zero-le}
-use mathlib.Core.Path.{_≡_, refl, sym, ap, ap₂, _∙_}
-use mathlib.Core.Logic.{_⊎_, inl, inr}
-use mathlib.Core.Bool.{Bool, true, false, _&&_, _||_, cond, or-comm, or-false}
+use Prim.Native.Nat.{_%_, _*_, _+_, _/_, _<_, _^_, suc, zero, zero-le, ℕ, _≤_}
+use mathlib.Core.Bool.{_&&_, Bool, cond, false, not, or-comm, or-false, or-true, true, _||_}
+use mathlib.Core.Logic.{inl, inr, _⊎_}
+use mathlib.Core.Path.{ap, ap₂, refl, sym, _∙_, _≡_}
+use native.Mathlib.Decide.{ℕ-discrete}
+use native.Mathlib.Nat.{add-zero, div-eq-of-lt, div-eq-of-lt-le, le-of-suc-le-suc, lt-of-lt-of-le, lt-of-not-le, mod-eq-of-lt, mod-lt, mod-one, not-suc-le-zero, one-mul, pow-suc, pow-succ', zero-add, zero-mul}
+use native.Mathlib.Numerals.{add-one, one-add}
 use native.Mathlib.Omega.{arith}
-use native.Mathlib.Numerals.{one-add}
-use native.Mathlib.Nat.{not-suc-le-zero, pow-suc, pow-succ', zero-mul, one-mul, zero-add, add-zero, mod-one, mod-lt, mod-eq-of-lt, div-eq-of-lt, div-eq-of-lt-le, lt-of-lt-of-le, lt-of-not-le, le-of-suc-le-suc}
-use lib.Pow.{pow-lt, pow-mono, mod-pow-add}
-use lib.Bits.{bitOr, or-block}
-use lib.Count.{ones, leadingZeros, ones-cat, leading-top}
-use lib.Dec.{eqb}
-use borrow.Author.Tests.{eq-eqb, ne-eqb}
-use Rattle.bits.specs.Below.{some, count, greatest, word, bit}
-use Rattle.bits.specs.Word.{withBit}
-use Rattle.bits.proofs.Bools.{by-cond, clash, eqb-swap}
-use Rattle.bits.proofs.Below.{last-or-below, none-passes, greatest-none, greatest-same, count-same}
+use lib.Bits.{and-block, bitAnd, bitOr, bitXor, or-block, xor-block}
+use lib.Count.{leading-top, leadingZeros, ones, ones-cat}
+use lib.Dec.{eqb, ltb}
+use lib.Pow.{mod-pow-add, pow-lt, pow-mono}
+use borrow.Author.Tests.{eq-eqb, le-ltb, lt-ltb, ltb-true, ne-eqb}
+use Rattle.bits.specs.Below.{bit, count, greatest, some, word}
+use Rattle.bits.specs.Word.{withBit, without}
+use Rattle.bits.proofs.Below.{count-same, greatest-none, greatest-same, last-or-below, none-passes}
+use Rattle.bits.proofs.Bools.{and-false-right, by-cond, clash, eqb-swap, same-test}
 use Rattle.bits.proofs.Most.{greatest-is}
 
 -- a bit as a number
@@ -98,18 +99,65 @@ pub bit-above : (w n p : ℕ) → w < 2 ^ n → n ≤ p → bit w p ≡ false
 unfolding bit
 bit-above w n p h l = rw (div-eq-of-lt (lt-of-lt-of-le h (pow-mono l)))
 
+-- an operation that goes digit by digit makes, of two tests' words, the word of the joined test
+module _ (op : ℕ → ℕ → ℕ) (join : Bool → Bool → Bool) (none : op 0 0 ≡ 0)
+    (block : (k a b r s : ℕ) → r < 2 ^ k → s < 2 ^ k → op (a * 2 ^ k + r) (b * 2 ^ k + s) ≡ op a b * 2 ^ k + op r s)
+    (digits : (b c : Bool) → op (digit b) (digit c) ≡ digit (join b c)) where
+  op-words : (f h : ℕ → Bool) (n : ℕ) → op (word n f) (word n h) ≡ word n (λ q. join (f q) (h q))
+  unfolding word
+  op-words f h zero = none
+  op-words f h (suc n) =
+      ap₂ op (word-split f n) (word-split h n) ∙ block n (digit (f n)) (digit (h n)) (word n f) (word n h) (word-lt f n) (word-lt h n)
+      ∙ ap₂ (λ (x y : ℕ). x * 2 ^ n + y) (digits (f n) (h n)) (op-words f h n) ∙ sym (word-split (λ q. join (f q) (h q)) n)
+
 -- the `|` of two words
 pub or-words : (f h : ℕ → Bool) (n : ℕ) → bitOr (word n f) (word n h) ≡ word n (λ q. f q || h q)
-or-words f h zero = unfold word in refl
-or-words f h (suc n) =
-    ap₂ bitOr (word-split f n) (word-split h n) ∙ or-block n (digit (f n)) (digit (h n)) (word n f) (word n h) (word-lt f n) (word-lt h n)
-    ∙ ap₂ (λ (x y : ℕ). x * 2 ^ n + y) (or-digit (f n) (h n)) (or-words f h n) ∙ sym (word-split (λ q. f q || h q) n)
+or-words = op-words bitOr _||_ refl or-block digits
   where
-    or-digit : (b c : Bool) → bitOr (digit b) (digit c) ≡ digit (b || c)
-    or-digit true true = refl
-    or-digit true false = refl
-    or-digit false true = refl
-    or-digit false false = refl
+    digits : (b c : Bool) → bitOr (digit b) (digit c) ≡ digit (b || c)
+    digits true true = refl
+    digits true false = refl
+    digits false true = refl
+    digits false false = refl
+
+-- the `&` of two words
+pub and-words : (f h : ℕ → Bool) (n : ℕ) → bitAnd (word n f) (word n h) ≡ word n (λ q. f q && h q)
+and-words = op-words bitAnd _&&_ refl and-block digits
+  where
+    digits : (b c : Bool) → bitAnd (digit b) (digit c) ≡ digit (b && c)
+    digits true true = refl
+    digits true false = refl
+    digits false true = refl
+    digits false false = refl
+
+-- the `^` of a word and its part
+pub xor-words : (f h : ℕ → Bool) (n : ℕ) → bitXor (word n f) (word n h) ≡ word n (λ q. cond (f q) (not (h q)) (h q))
+xor-words = op-words bitXor (λ b c. cond b (not c) c) refl xor-block digits
+  where
+    digits : (b c : Bool) → bitXor (digit b) (digit c) ≡ digit (cond b (not c) c)
+    digits true true = refl
+    digits true false = refl
+    digits false true = refl
+    digits false false = refl
+
+-- the bits of one word that another lacks, by `^` and `&`
+pub without-xor : (v w : ℕ) → v < 2 ^ 64 → w < 2 ^ 64 → bitXor v (bitAnd v w) ≡ without v w
+unfolding without
+without-xor v w hv hw =
+    ap₂ (λ (x y : ℕ). bitXor x (bitAnd x y)) (sym (word-bits v 64 hv)) (sym (word-bits w 64 hw))
+    ∙ ap (bitXor (word 64 (bit v))) (and-words (bit v) (bit w) 64) ∙ xor-words (bit v) (λ p. bit v p && bit w p) 64
+    ∙ word-same _ (λ p. bit v p && not (bit w p)) 64 (λ p _. go (bit v p) (bit w p))
+  where
+    go : (b c : Bool) → cond b (not (b && c)) (b && c) ≡ (b && not c)
+    go true c = refl
+    go false c = refl
+
+-- so of two tests' words the word of the numbers that pass the one and fail the other
+pub without-word : (f h : ℕ → Bool) → without (word 64 f) (word 64 h) ≡ word 64 (λ p. f p && not (h p))
+unfolding without
+without-word f h =
+    word-same (λ p. bit (word 64 f) p && not (bit (word 64 h) p)) (λ p. f p && not (h p)) 64
+    (λ p l. ap₂ (λ (b c : Bool). b && not c) (bit-word f 64 p l) (bit-word h 64 p l))
 
 -- the word of one bit
 pub word-one : (n p : ℕ) → p < n → word n (λ q. eqb q p) ≡ 2 ^ p
@@ -211,3 +259,43 @@ module _ (ok : ℕ → Bool) (key : ℕ → ℕ) where
   pub keyed-skip : (n i : ℕ) → ok i ≡ false → word n (keyed i) ≡ word n (keyed (suc i))
   unfolding some
   keyed-skip n i e = word-same (keyed i) (keyed (suc i)) n (λ p _. rw e)
+
+  -- both as a loop meets them: w holds the keys below j, b tells whether j is ok, v is w with j's key where b says so
+  pub keyed-collect : (j w v : ℕ) (b : Bool) → w ≡ word 64 (keyed j) → b ≡ ok j → v ≡ cond b (withBit w (key j)) w → v ≡ word 64 (keyed (j + 1))
+  keyed-collect j w v b p q r =
+      rw (add-one, r, q, p)
+      (by-cond (λ x. x ≡ word 64 (keyed (suc j))) (ok j) (withBit (word 64 (keyed j)) (key j)) (word 64 (keyed j)) (keyed-with j) (keyed-skip 64 j))
+
+-- below i and below suc i differ at i alone
+ltb-suc : (q i : ℕ) → (q ≡ i → ⊥) → ltb q i ≡ ltb q (suc i)
+ltb-suc q i n =
+    same-test (ltb q i) (ltb q (suc i)) (λ e. lt-ltb q (suc i) (omega (arith, ltb-true q i e)))
+    (λ e. lt-ltb q i (omega (arith, ltb-true q (suc i) e)))
+
+-- the numbers below i that pass, as an upward loop has collected them in a word
+module _ (f : ℕ → Bool) where
+  abbrev pub upTo : ℕ → ℕ → Bool
+  upTo i p = ltb p i && f p
+
+  -- before the first the word is 0
+  pub upTo-none : word 64 (upTo 0) ≡ 0
+  upTo-none = word-none (upTo 0) 64 (λ p l. ap (λ (b : Bool). b && f p) (le-ltb p 0 (omega arith)))
+
+  -- i joins where it passes
+  pub upTo-next : (i : ℕ) → cond (f i) (withBit (word 64 (upTo i)) i) (word 64 (upTo i)) ≡ word 64 (upTo (suc i))
+  upTo-next i =
+      by-cond (λ x. x ≡ word 64 (upTo (suc i))) (f i) (withBit (word 64 (upTo i)) i) (word 64 (upTo i))
+      (λ e. withBit-word (upTo i) i ∙ word-same (λ q. upTo i q || eqb q i) (upTo (suc i)) 64 (λ q _. joins e q (ℕ-discrete q i)))
+      (λ e. word-same (upTo i) (upTo (suc i)) 64 (λ q _. stays e q (ℕ-discrete q i)))
+    where
+      joins : f i ≡ true → (q : ℕ) → Dec (q ≡ i) → (upTo i q || eqb q i) ≡ upTo (suc i) q
+      joins e q (yes z) = rw (z, eq-eqb i i refl, lt-ltb i (suc i) (omega arith), e) (or-true (ltb i i && true))
+      joins e q (no n) = rw (ne-eqb q i n, ltb-suc q i n) (or-false (ltb q (suc i) && f q))
+
+      stays : f i ≡ false → (q : ℕ) → Dec (q ≡ i) → upTo i q ≡ upTo (suc i) q
+      stays e q (yes z) = rw (z, e) (and-false-right (ltb i i) refl ∙ sym (and-false-right (ltb i (suc i)) refl))
+      stays e q (no n) = ap (λ (b : Bool). b && f q) (ltb-suc q i n)
+
+  -- the same as a loop meets it: w is collected up to j, b tells whether j passes, v is w with j where b says so
+  pub collect : (j w v : ℕ) (b : Bool) → w ≡ word 64 (upTo j) → b ≡ f j → v ≡ cond b (withBit w j) w → v ≡ word 64 (upTo (j + 1))
+  collect j w v b p q r = rw (add-one, r, q, p) (upTo-next j)

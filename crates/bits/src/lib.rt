@@ -1,14 +1,36 @@
 // 64-bit words: a bit set, the ones, the highest bit.
 // Each function has one answer for every input, and `proofs/Word.antt` has the laws by which a caller reads it.
 ghost use mathlib.Core.Path.{_≡_};
+ghost use mathlib.Core.Bool.{cond};
 ghost use Rattle.bits.specs.Below.{count, greatest, bit};
-ghost use Rattle.bits.specs.Word.{withBit};
+ghost use Rattle.bits.specs.Word.{withBit, without};
 
 // The word with bit p set too; for p of 64 or more the word as it is.
 pub fn with_bit(w: u64, p: u32) -> u64
     ensures { λ r. ⌜ r ≡ withBit w p ⌝ }
 {
     if p < 64 { w | (1u64 << p) } else { w }
+}
+
+// The same where the test passes; else the word as it is.
+pub fn with_bit_if(w: u64, p: u32, test: bool) -> u64
+    ensures { λ r. ⌜ r ≡ cond test (withBit w p) w ⌝ }
+{
+    if test { with_bit(w, p) } else { w }
+}
+
+// Whether bit p of the word is set; no bit of 64 or more is.
+pub fn has_bit(w: u64, p: u32) -> bool
+    ensures { λ r. ⌜ r ≡ bit w p ⌝ }
+{
+    if p < 64 { (w >> p) % 2 == 1 } else { false }
+}
+
+// The bits of v that w lacks.
+pub fn without(v: u64, w: u64) -> u64
+    ensures { λ r. ⌜ r ≡ without v w ⌝ }
+{
+    v ^ (v & w)
 }
 
 // How many bits of the word are set.

@@ -6,6 +6,7 @@ pub mod Tick
 pub mod Consistent
 pub mod Ranges
 pub mod Ready
+pub mod View
 pub mod Replay
 pub mod Steady
 pub mod Run

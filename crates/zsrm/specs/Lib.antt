@@ -3,6 +3,7 @@ pub mod Fields
 pub mod Refusals
 pub mod Record
 pub mod Tick
+pub mod View
 pub mod Run
 pub mod Legal
 pub mod Verdict

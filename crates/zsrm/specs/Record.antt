@@ -30,7 +30,7 @@ standingAt r j = placeAt r j .standing
 unfoldable pub blank : Record
 blank = record { tick = 0; places = replicate 64 empty }
 
-unfoldable pub isSE : Mode → Bool
+abbrev pub isSE : Mode → Bool
 isSE S = false
 isSE SE = true
 

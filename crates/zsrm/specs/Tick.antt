@@ -1,6 +1,7 @@
 -- Document 01, "One tick".
 use Prim.Native.Nat.{ℕ, suc, _+_}
 use mathlib.Core.Bool.{Bool, true, false, not, _&&_, cond}
+use mathlib.Core.List.{List}
 use lib.Dec.{leb, ltb, eqb}
 use Rattle.bits.specs.Below.{some, least, count, word, listFrom}
 use Rattle.zsrm.specs.declared.record.Standing.{Standing}
@@ -10,7 +11,7 @@ use Rattle.zsrm.specs.declared.record.Record.{Record}
 use Rattle.zsrm.specs.Tables.{Given, idle, jobCount, execution, jobCriticality, jobPriority, jobNominal, zeroSlackInstant}
 use Rattle.zsrm.specs.Record.{isSE, doneAt, standingAt, opening}
 
-unfoldable pub unfinished : Standing → Bool
+abbrev pub unfinished : Standing → Bool
 unfinished NotArrived = false
 unfinished Unfinished = true
 unfinished (Finished f) = false
@@ -19,6 +20,10 @@ unfinished (Ended e) = false
 -- A job is alive if arrived, neither finished nor ended.
 unfoldable pub alive : Record → ℕ → Bool
 alive r j = unfinished (standingAt r j)
+
+-- The jobs that pass, as a word: bit j is set exactly when j is a job of the list and passes.
+unfoldable pub jobWord : List ℕ → (ℕ → Bool) → ℕ
+jobWord jobs f = word 64 (λ j. ltb j (jobCount jobs) && f j)
 
 module _ (g : Given) where
   -- some job of the list passes
@@ -85,7 +90,7 @@ module _ (g : Given) where
 
       -- Bit j of the ended word is set exactly when job j is ended in this tick.
       unfoldable pub endedWord : ℕ
-      endedWord = word 64 (λ j. ltb j (jobCount (g .jobs)) && ends j)
+      endedWord = jobWord (g .jobs) ends
 
       -- the standing after the tick of a job that was alive in it
       unfoldable pub goesOn : ℕ → Standing

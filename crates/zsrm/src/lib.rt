@@ -3,6 +3,7 @@
 mod answers;
 mod record;
 mod tables;
+mod tick;
 
 pub use answers::Claim;
 pub use answers::Outcome;

@@ -2,7 +2,9 @@
 // jobs. A field past a list's end is 0.
 ghost use mathlib.Core.Path.{_≡_};
 ghost use lib.ListN.{getD};
-ghost use Rattle.zsrm.specs.Fields.{taskAt, jobAt};
+ghost use lib.Dec.{ltb, eqb};
+ghost use Rattle.zsrm.specs.Tables.{jobCount, taskOf, jobCriticality, jobPriority, jobNominal, zeroSlackInstant};
+ghost use Rattle.zsrm.specs.Fields.{lists, taskAt, jobAt};
 
 // ZSRM-S suspends; ZSRM-SE suspends and ends.
 pub enum Mode {
@@ -21,6 +23,12 @@ fn at(list: &[u32], i: usize) -> u32
     ensures { λ r. ⌜ r ≡ getD (now (list .entry)) i 0 ⌝ }
 {
     if i < list.len() { list[i] } else { 0 }
+}
+
+pub(crate) fn job_count(jobs: &[u32]) -> usize
+    ensures { λ r. ⌜ r ≡ jobCount (now (jobs .entry)) ⌝ }
+{
+    jobs.len() / 3
 }
 
 // A task's fields.
@@ -64,5 +72,59 @@ pub(crate) fn job_at(jobs: &[u32], j: u32) -> Job
         task: at(jobs, first),
         arrival: at(jobs, first + 1),
         execution: at(jobs, first + 2),
+    }
+}
+
+// The task of a job.
+pub(crate) fn task_of(tasks: &[u32], jobs: &[u32], j: u32) -> Task
+    ensures { λ r. ⌜ r ≡ taskAt (now (tasks .entry)) (taskOf (now (jobs .entry)) j) ⌝ }
+{
+    let job = job_at(jobs, j);
+    task_at(tasks, job.task)
+}
+
+pub(crate) fn criticality_of(tasks: &[u32], jobs: &[u32], j: u32) -> Criticality
+    ensures { λ r. ⌜ r .0 ≡ jobCriticality (lists (now (tasks .entry)) (now (jobs .entry))) j ⌝ }
+{
+    let task = task_of(tasks, jobs, j);
+    task.criticality
+}
+
+pub(crate) fn priority_of(tasks: &[u32], jobs: &[u32], j: u32) -> Priority
+    ensures { λ r. ⌜ r .0 ≡ jobPriority (lists (now (tasks .entry)) (now (jobs .entry))) j ⌝ }
+{
+    let task = task_of(tasks, jobs, j);
+    task.priority
+}
+
+pub(crate) fn nominal_of(tasks: &[u32], jobs: &[u32], j: u32) -> u32
+    ensures { λ r. ⌜ r ≡ jobNominal (lists (now (tasks .entry)) (now (jobs .entry))) j ⌝ }
+{
+    let task = task_of(tasks, jobs, j);
+    task.nominal
+}
+
+// arrival + Z, which two 32-bit numbers may well exceed
+pub(crate) fn zero_slack_instant(tasks: &[u32], jobs: &[u32], j: u32) -> u64
+    ensures { λ r. ⌜ r ≡ zeroSlackInstant (lists (now (tasks .entry)) (now (jobs .entry))) j ⌝ }
+{
+    let job = job_at(jobs, j);
+    let task = task_of(tasks, jobs, j);
+    (job.arrival as u64) + (task.slack as u64)
+}
+
+impl Criticality {
+    pub(crate) fn exceeds(self, other: Criticality) -> bool
+        ensures { λ r. ⌜ r ≡ ltb (other .0) (self .0) ⌝ }
+    {
+        other.0 < self.0
+    }
+}
+
+impl Priority {
+    pub(crate) fn equals(self, other: Priority) -> bool
+        ensures { λ r. ⌜ r ≡ eqb (self .0) (other .0) ⌝ }
+    {
+        self.0 == other.0
     }
 }

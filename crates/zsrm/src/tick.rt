@@ -1,0 +1,217 @@
+// Document 01, "One tick", with sets of jobs as words: bit j for job j.
+ghost use mathlib.Core.Path.{_≡_};
+ghost use mathlib.Core.Bool.{cond};
+ghost use Prim.Native.Nat.{_+_, _≤_};
+ghost use Rattle.zsrm.specs.Tables.{jobCount};
+ghost use Rattle.zsrm.specs.Tick.{unfinished, alive, jobWord};
+ghost use Rattle.zsrm.specs.Fields.{lists};
+ghost use Rattle.zsrm.specs.View.{outranks, outranked, liesBelow, belowWord, isPast, pastWord, hasPriority, priorityWord, lowestOf, overruns, overrunWord, view, chosen};
+use crate::record::Record;
+use crate::record::Standing;
+use crate::tables::Criticality;
+use crate::tables::Priority;
+use crate::tables::criticality_of;
+use crate::tables::job_count;
+use crate::tables::nominal_of;
+use crate::tables::priority_of;
+use crate::tables::zero_slack_instant;
+
+// The jobs alive, past zero slack and eligible, and the ready word: bit p for priority p.
+pub(crate) struct View {
+    pub alive: u64,
+    pub past: u64,
+    pub eligible: u64,
+    pub ready: u64,
+}
+
+fn is_unfinished(standing: Standing) -> bool
+    ensures { λ r. ⌜ r ≡ unfinished standing ⌝ }
+{
+    match standing {
+        Standing::NotArrived => false,
+        Standing::Unfinished => true,
+        Standing::Finished(_) => false,
+        Standing::Ended(_) => false,
+    }
+}
+
+fn alive_word(rec: Record, jobs: &[u32]) -> u64
+    requires { ⌜ jobCount (now jobs) ≤ 64 ⌝ }
+    ensures { λ r. ⌜ r ≡ jobWord (now (jobs .entry)) (alive rec) ⌝ }
+{
+    let n = job_count(jobs);
+    let mut word: u64 = 0;
+    let mut j: usize = 0;
+    while j < n {
+        let place = rec.places[j];
+        let standing = place.standing;
+        word = bits::with_bit_if(word, j as u32, is_unfinished(standing));
+        j += 1;
+    }
+    word
+}
+
+fn is_past(among: u64, tick: u32, j: u32, tasks: &[u32], jobs: &[u32]) -> bool
+    ensures { λ r. ⌜ r ≡ isPast (lists (now (tasks .entry)) (now (jobs .entry))) among tick j ⌝ }
+{
+    bits::has_bit(among, j) & (zero_slack_instant(tasks, jobs, j) <= (tick as u64))
+}
+
+// The jobs of a set whose zero-slack instant has come by the tick.
+fn past_word(among: u64, tick: u32, tasks: &[u32], jobs: &[u32]) -> u64
+    requires { ⌜ jobCount (now jobs) ≤ 64 ⌝ }
+    ensures { λ r. ⌜ r ≡ pastWord (lists (now (tasks .entry)) (now (jobs .entry))) among tick ⌝ }
+{
+    let n = job_count(jobs);
+    let mut word: u64 = 0;
+    let mut j: usize = 0;
+    while j < n {
+        word = bits::with_bit_if(word, j as u32, is_past(among, tick, j as u32, tasks, jobs));
+        j += 1;
+    }
+    word
+}
+
+fn outranks(by: u64, c: Criticality, i: u32, tasks: &[u32], jobs: &[u32]) -> bool
+    ensures { λ r. ⌜ r ≡ outranks (lists (now (tasks .entry)) (now (jobs .entry))) by (c .0) i ⌝ }
+{
+    bits::has_bit(by, i) & criticality_of(tasks, jobs, i).exceeds(c)
+}
+
+// Whether some job in the set is strictly more critical than c.
+fn is_outranked(by: u64, c: Criticality, tasks: &[u32], jobs: &[u32]) -> bool
+    requires { ⌜ jobCount (now jobs) ≤ 64 ⌝ }
+    ensures { λ r. ⌜ r ≡ outranked (lists (now (tasks .entry)) (now (jobs .entry))) by (c .0) ⌝ }
+{
+    let n = job_count(jobs);
+    let mut i: usize = 0;
+    while i < n {
+        if outranks(by, c, i as u32, tasks, jobs) {
+            return true;
+        }
+        i += 1;
+    }
+    false
+}
+
+fn lies_below(among: u64, by: u64, j: u32, tasks: &[u32], jobs: &[u32]) -> bool
+    requires { ⌜ jobCount (now jobs) ≤ 64 ⌝ }
+    ensures { λ r. ⌜ r ≡ liesBelow (lists (now (tasks .entry)) (now (jobs .entry))) among by j ⌝ }
+{
+    bits::has_bit(among, j) & is_outranked(by, criticality_of(tasks, jobs, j), tasks, jobs)
+}
+
+// The jobs of one set that some job of another outranks.
+fn below_word(among: u64, by: u64, tasks: &[u32], jobs: &[u32]) -> u64
+    requires { ⌜ jobCount (now jobs) ≤ 64 ⌝ }
+    ensures { λ r. ⌜ r ≡ belowWord (lists (now (tasks .entry)) (now (jobs .entry))) among by ⌝ }
+{
+    let n = job_count(jobs);
+    let mut word: u64 = 0;
+    let mut j: usize = 0;
+    while j < n {
+        word = bits::with_bit_if(word, j as u32, lies_below(among, by, j as u32, tasks, jobs));
+        j += 1;
+    }
+    word
+}
+
+// The priorities of the jobs in a set.
+fn priority_word(among: u64, tasks: &[u32], jobs: &[u32]) -> u64
+    requires { ⌜ jobCount (now jobs) ≤ 64 ⌝ }
+    ensures { λ r. ⌜ r ≡ priorityWord (lists (now (tasks .entry)) (now (jobs .entry))) among ⌝ }
+{
+    let n = job_count(jobs);
+    let mut word: u64 = 0;
+    let mut j: usize = 0;
+    while j < n {
+        let priority = priority_of(tasks, jobs, j as u32);
+        word = bits::with_bit_if(word, priority.0, bits::has_bit(among, j as u32));
+        j += 1;
+    }
+    word
+}
+
+fn has_priority(among: u64, p: Priority, j: u32, tasks: &[u32], jobs: &[u32]) -> bool
+    ensures { λ r. ⌜ r ≡ hasPriority (lists (now (tasks .entry)) (now (jobs .entry))) among (p .0) j ⌝ }
+{
+    bits::has_bit(among, j) & priority_of(tasks, jobs, j).equals(p)
+}
+
+// The lowest-numbered job of a set that has the priority, or idle.
+fn lowest_of(among: u64, p: Priority, tasks: &[u32], jobs: &[u32]) -> u16
+    requires { ⌜ jobCount (now jobs) ≤ 64 ⌝ }
+    ensures { λ r. ⌜ r ≡ lowestOf (lists (now (tasks .entry)) (now (jobs .entry))) among (p .0) ⌝ }
+{
+    let n = job_count(jobs);
+    let mut j: usize = 0;
+    while j < n {
+        if has_priority(among, p, j as u32, tasks, jobs) {
+            return j as u16;
+        }
+        j += 1;
+    }
+    65535
+}
+
+// The ticks done, with one more where the job ran.
+fn with_one(done: u32, ran: bool) -> u64
+    ensures { λ r. ⌜ r ≡ done + cond ran 1 0 ⌝ }
+{
+    if ran { (done as u64) + 1 } else { done as u64 }
+}
+
+fn overruns(among: u64, entry: u16, j: u32, done: u32, tasks: &[u32], jobs: &[u32]) -> bool
+    ensures { λ r. ⌜ r ≡ overruns (lists (now (tasks .entry)) (now (jobs .entry))) among entry j done ⌝ }
+{
+    let now_done = with_one(done, (entry as u32) == j);
+    bits::has_bit(among, j) & ((nominal_of(tasks, jobs, j) as u64) < now_done)
+}
+
+// The jobs of a set whose done, with one more for the one that runs, exceeds C.
+fn overrun_word(rec: Record, among: u64, entry: u16, tasks: &[u32], jobs: &[u32]) -> u64
+    requires { ⌜ jobCount (now jobs) ≤ 64 ⌝ }
+    ensures { λ r. ⌜ r ≡ overrunWord (lists (now (tasks .entry)) (now (jobs .entry))) rec among entry ⌝ }
+{
+    let n = job_count(jobs);
+    let mut word: u64 = 0;
+    let mut j: usize = 0;
+    while j < n {
+        let place = rec.places[j];
+        let over = overruns(among, entry, j as u32, place.done, tasks, jobs);
+        word = bits::with_bit_if(word, j as u32, over);
+        j += 1;
+    }
+    word
+}
+
+impl View {
+    pub(crate) fn at(rec: Record, tasks: &[u32], jobs: &[u32]) -> View
+        requires { ⌜ jobCount (now jobs) ≤ 64 ⌝ }
+        ensures { λ r. ⌜ r ≡ view (lists (now (tasks .entry)) (now (jobs .entry))) rec ⌝ }
+    {
+        let alive = alive_word(rec, jobs);
+        let past = past_word(alive, rec.tick, tasks, jobs);
+        let eligible = bits::without(alive, below_word(alive, past, tasks, jobs));
+        let ready = priority_word(eligible, tasks, jobs);
+        View {
+            alive,
+            past,
+            eligible,
+            ready,
+        }
+    }
+
+    // The lowest-numbered eligible job of the top priority that is ready, or idle: 64 is no priority.
+    pub(crate) fn choice(self, tasks: &[u32], jobs: &[u32]) -> u16
+        requires { ⌜ jobCount (now jobs) ≤ 64 ⌝ }
+        ensures { λ r. ⌜ r ≡ chosen (lists (now (tasks .entry)) (now (jobs .entry))) self ⌝ }
+    {
+        lowest_of(
+            self.eligible,
+            Priority(bits::highest(self.ready)),
+            tasks,
+            jobs,
+        )
+    }
+}
