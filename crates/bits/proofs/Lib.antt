@@ -2,3 +2,4 @@ pub mod Bools
 pub mod Below
 pub mod Most
 pub mod Word
+pub mod Readings

@@ -1,3 +1,4 @@
 pub mod Promise
+pub mod Readings
 pub mod Traced
 pub mod Laws
