@@ -1,7 +1,7 @@
 -- The laws of the tests over the numbers below a bound, as a proof about a definition, or a loop, asks for them.
 -- A law by the name of a definition and -same says that tests that agree below the bound give it one answer.
 use Prim.Native.Nat.{_+_, _<_, suc, zero, ℕ, _≤_}
-use mathlib.Core.Bool.{Bool, cond, false, false≢true, true, _||_}
+use mathlib.Core.Bool.{_&&_, Bool, cond, false, false≢true, true, _||_}
 use mathlib.Core.List.{_++_, List, [], _∷_}
 use mathlib.Core.Logic.{inl, inr, _⊎_}
 use mathlib.Core.Path.{ap, ap₂, refl, subst, sym, _∙_, _≡_}
@@ -174,3 +174,8 @@ module _ (f : ℕ → Bool) where
 
   pub scan-end : (n j : ℕ) → j ≤ n → n ≤ j → some j f ≡ false → some n f ≡ false
   scan-end n j a b p = ap (λ (k : ℕ). some k f) (let e : n ≡ j = omega arith in e) ∙ p
+
+  -- "every" as a loop gathers it: w tells of those below j, b of j
+  pub every-on : (j : ℕ) (w b v : Bool) → w ≡ every j f → b ≡ f j → v ≡ (b && w) → v ≡ every (j + 1) f
+  unfolding every
+  every-on j w b v p q r = rw (add-one, r, q, p, every)

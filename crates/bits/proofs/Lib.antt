@@ -3,3 +3,4 @@ pub mod Below
 pub mod Most
 pub mod Word
 pub mod Readings
+pub mod Arrays

@@ -7,6 +7,7 @@ pub mod Consistent
 pub mod Ranges
 pub mod Ready
 pub mod View
+pub mod Next
 pub mod Replay
 pub mod Steady
 pub mod Run

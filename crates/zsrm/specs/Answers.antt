@@ -53,6 +53,9 @@ stepped g r =
       ended = endedWord g r (choice g r);
     }
 
+unfoldable pub freshAnswer : List ℕ → List ℕ → Ran
+freshAnswer tasks jobs = ran (checkLists tasks jobs) (fresh jobs)
+
 module _ (g : Given) where
   -- The checks, in the order of their numbers: lists 2 to 8; step 11, 12; run and claim 9, 10; verdict 11, 13; witness 9, 10, 13.
   unfoldable pub checkGiven : Outcome
@@ -70,10 +73,7 @@ module _ (g : Given) where
   unfoldable pub checkWitness : ℕ → List ℕ → ℕ → Outcome
   checkWitness horizon schedule j = before (checkSchedule horizon schedule) (check13 (g .jobs) j)
 
-  -- The entry points.
-  unfoldable pub freshAnswer : Ran
-  freshAnswer = ran checkGiven (fresh (g .jobs))
-
+  -- The entry points that are given a mode; a fresh record needs none.
   unfoldable pub stepAnswer : Record → Stepped
   stepAnswer r = unless (checkStep r) refusedStep (stepped g r)
 

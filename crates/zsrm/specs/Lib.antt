@@ -4,6 +4,7 @@ pub mod Refusals
 pub mod Record
 pub mod Tick
 pub mod View
+pub mod Next
 pub mod Run
 pub mod Legal
 pub mod Verdict

@@ -53,21 +53,20 @@ freshPlace jobs j = record { done = 0; standing = opening jobs 0 j }
 unfoldable pub fresh : List ℕ → Record
 fresh jobs = record { tick = 0; places = listFrom 0 64 (freshPlace jobs) }
 
--- What consistency asks of the place j at tick t, by its standing:
--- not arrived exactly when it is no job's or its arrival exceeds t, and then 0 done; arrived, and unfinished or ended, done < c;
--- finished, done = c; done ≤ t − arrival; a finishing instant from arrival + c to t; an ending tick from arrival to t − 1;
--- in mode S nothing is ended.
-unfoldable pub soundPlace : Mode → List ℕ → ℕ → ℕ → ℕ → Standing → Bool
-soundPlace m jobs t j done NotArrived = not (arrived jobs t j) && eqb done 0
-soundPlace m jobs t j done Unfinished = arrived jobs t j && ltb done (execution jobs j) && leb (arrival jobs j + done) t
-soundPlace m jobs t j done (Finished f) =
-    arrived jobs t j && eqb done (execution jobs j) && leb (arrival jobs j + done) t && leb (arrival jobs j + execution jobs j) f
-    && leb f t
-soundPlace m jobs t j done (Ended e) =
-    isSE m && arrived jobs t j && ltb done (execution jobs j) && leb (arrival jobs j + done) t && leb (arrival jobs j) e && ltb e t
+-- What consistency asks of a place at tick t, by its standing; `here` is that its job has arrived by t, a and c are the job's arrival and
+-- execution time. Not arrived exactly when it is no job's or its arrival exceeds t, and then 0 done; an unfinished or ended job has
+-- done < c, a finished one done = c; done ≤ t − arrival; a finishing instant lies from arrival + c to t; an ending tick from arrival to
+-- t − 1; in mode S nothing is ended.
+abbrev pub soundPlace : Bool → Bool → ℕ → ℕ → ℕ → ℕ → Standing → Bool
+soundPlace se here a c t done NotArrived = not here && eqb done 0
+soundPlace se here a c t done Unfinished = here && ltb done c && leb (a + done) t
+soundPlace se here a c t done (Finished f) = here && eqb done c && leb (a + done) t && leb (a + c) f && leb f t
+soundPlace se here a c t done (Ended e) = se && here && ltb done c && leb (a + done) t && leb a e && ltb e t
 
 unfoldable pub soundAt : Given → Record → ℕ → Bool
-soundAt g r j = soundPlace (g .mode) (g .jobs) (r .tick) j (doneAt r j) (standingAt r j)
+soundAt g r j =
+    soundPlace (isSE (g .mode)) (arrived (g .jobs) (r .tick) j) (arrival (g .jobs) j) (execution (g .jobs) j) (r .tick) (doneAt r j)
+    (standingAt r j)
 
 -- t ≤ 16,384, and every place is sound.
 unfoldable pub consistent : Given → Record → Bool

@@ -1,4 +1,12 @@
 // Document 01, "The record": the tick, and for each of 64 places the ticks done and one standing.
+ghost use mathlib.Core.Path.{_≡_};
+ghost use Rattle.zsrm.specs.Tables.{arrival, execution};
+ghost use Rattle.zsrm.specs.Record.{arrived, blank, freshPlace, fresh, isSE, soundPlace, consistent};
+ghost use Rattle.zsrm.specs.Next.{openingOf};
+ghost use Rattle.zsrm.specs.Answers.{given};
+use crate::tables::Mode;
+use crate::tables::job_at;
+use crate::tables::job_count;
 
 pub enum Standing {
     NotArrived,
@@ -17,4 +25,122 @@ pub struct Place {
 pub struct Record {
     pub tick: u32,
     pub places: [Place; 64],
+}
+
+// A refusal's record.
+pub(crate) fn blank() -> Record
+    ensures { λ r. ⌜ r ≡ blank ⌝ }
+{
+    let empty = Place {
+        done: 0,
+        standing: Standing::NotArrived,
+    };
+    Record {
+        tick: 0,
+        places: [empty; 64],
+    }
+}
+
+pub(crate) fn is_se(mode: Mode) -> bool
+    ensures { λ r. ⌜ r ≡ isSE mode ⌝ }
+{
+    match mode {
+        Mode::S => false,
+        Mode::SE => true,
+    }
+}
+
+fn has_arrived(jobs: &[u32], t: u32, j: u32) -> bool
+    ensures { λ r. ⌜ r ≡ arrived (now (jobs .entry)) t j ⌝ }
+{
+    let job = job_at(jobs, j);
+    ((j as usize) < job_count(jobs)) & (job.arrival <= t)
+}
+
+// What consistency asks of one place, by its standing.
+fn is_sound(se: bool, here: bool, a: u32, c: u32, t: u32, done: u32, standing: Standing) -> bool
+    ensures { λ r. ⌜ r ≡ soundPlace se here a c t done standing ⌝ }
+{
+    let room = (a as u64) + (done as u64) <= (t as u64);
+    match standing {
+        Standing::NotArrived => !here & (done == 0),
+        Standing::Unfinished => here & (done < c) & room,
+        Standing::Finished(f) => {
+            here & (done == c) & room & ((a as u64) + (c as u64) <= (f as u64)) & (f <= t)
+        }
+        Standing::Ended(e) => se & here & (done < c) & room & (a <= e) & (e < t),
+    }
+}
+
+fn is_sound_at(mode: Mode, jobs: &[u32], t: u32, j: u32, place: Place) -> bool
+    ensures { λ r. ⌜ r ≡ soundPlace (isSE mode) (arrived (now (jobs .entry)) t j) (arrival (now (jobs .entry)) j) (execution (now (jobs .entry)) j) t (place .done) (place .standing) ⌝ }
+{
+    let job = job_at(jobs, j);
+    let here = has_arrived(jobs, t, j);
+    let standing = place.standing;
+    is_sound(
+        is_se(mode),
+        here,
+        job.arrival,
+        job.execution,
+        t,
+        place.done,
+        standing,
+    )
+}
+
+// Whether the record is consistent with the jobs.
+pub(crate) fn is_consistent(rec: Record, mode: Mode, tasks: &[u32], jobs: &[u32]) -> bool
+    ensures { λ r. ⌜ r ≡ consistent (given mode (now (tasks .entry)) (now (jobs .entry))) rec ⌝ }
+{
+    let t = rec.tick;
+    let mut every = true;
+    let mut j: usize = 0;
+    while j < 64 {
+        let place = rec.places[j];
+        every = is_sound_at(mode, jobs, t, j as u32, place) & every;
+        j += 1;
+    }
+    (t <= 16384) & every
+}
+
+// The standing at t of a place at which nothing has run.
+pub(crate) fn opening(listed: bool, a: u32, c: u32, t: u32) -> Standing
+    ensures { λ r. ⌜ r ≡ openingOf listed a c t ⌝ }
+{
+    if listed & (a <= t) {
+        if c == 0 {
+            Standing::Finished(a)
+        } else {
+            Standing::Unfinished
+        }
+    } else {
+        Standing::NotArrived
+    }
+}
+
+fn fresh_place(jobs: &[u32], j: u32) -> Place
+    ensures { λ r. ⌜ r ≡ freshPlace (now (jobs .entry)) j ⌝ }
+{
+    let job = job_at(jobs, j);
+    let standing = opening(
+        (j as usize) < job_count(jobs),
+        job.arrival,
+        job.execution,
+        0,
+    );
+    Place { done: 0, standing }
+}
+
+// t = 0 and nothing done.
+pub(crate) fn fresh_record(jobs: &[u32]) -> Record
+    ensures { λ r. ⌜ r ≡ fresh (now (jobs .entry)) ⌝ }
+{
+    let mut out = blank();
+    let mut j: usize = 0;
+    while j < 64 {
+        out.places[j] = fresh_place(jobs, j as u32);
+        j += 1;
+    }
+    out
 }

@@ -20,7 +20,7 @@ use Rattle.zsrm.proofs.Laws.Refusals.{ascending-at, before-first, befor
 
 module _ (tasks : List ℕ) (ok : checkTasks tasks ≡ Done) where
   -- every field of an accepted task is in its range, and C ≤ Co, D ≤ T, Z ≤ D
-  pub record Task (k : ℕ) : Type 0 where
+  pub record AcceptedTask (k : ℕ) : Type 0 where
     pub period-least : 1 ≤ period tasks k
     pub period-most : period tasks k ≤ 16384
     pub deadline-least : 1 ≤ deadline tasks k
@@ -36,7 +36,7 @@ module _ (tasks : List ℕ) (ok : checkTasks tasks ≡ Done) where
     pub deadline-period : deadline tasks k ≤ period tasks k
     pub slack-deadline : zeroSlack tasks k ≤ deadline tasks k
 
-  pub task : (k : ℕ) → k < taskCount tasks → Task k
+  pub task : (k : ℕ) → k < taskCount tasks → AcceptedTask k
   unfolding checkTasks check3 check4 outside
   task k l =
       let both = ascending-at (λ i. before (check3 tasks i) (check4 tasks i)) (taskCount tasks) k l (before-second (check2 tasks) _ ok) in
@@ -87,13 +87,13 @@ module _ (tasks jobs : List ℕ) (ok : checkJobs tasks jobs ≡ Done) where
       let five = refuse-fine _ _ _ (before-first (check5 jobs) _ ok) in
       search fine
 
-  pub record Job (j : ℕ) : Type 0 where
+  pub record AcceptedJob (j : ℕ) : Type 0 where
     pub known : taskOf jobs j < taskCount tasks
     pub early : arrival jobs j ≤ 16384
     pub within : execution jobs j ≤ overload tasks (taskOf jobs j)
     pub apart : (ltb (preceding jobs j) j && ltb (arrival jobs j) (arrival jobs (preceding jobs j) + period tasks (taskOf jobs j))) ≡ false
 
-  pub job : (j : ℕ) → j < jobCount jobs → Job j
+  pub job : (j : ℕ) → j < jobCount jobs → AcceptedJob j
   unfolding checkJobs check6 check8
   job j l =
       let each = ascending-at (λ i. before (check6 tasks jobs i) (before (check7 tasks jobs i) (check8 tasks jobs i))) (jobCount jobs) j l (before-second (check5 jobs) _ ok) in

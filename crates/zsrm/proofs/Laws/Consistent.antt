@@ -53,8 +53,7 @@ module _ (m : Mode) (jobs : List ℕ) (t j done : ℕ) where
   Sound (Finished f) = Complete f
   Sound (Ended e) = Stopped e
 
-  pub sound-read : (s : Standing) → soundPlace m jobs t j done s ≡ true → Sound s
-  unfolding soundPlace
+  pub sound-read : (s : Standing) → soundPlace (isSE m) (arrived jobs t j) (arrival jobs j) (execution jobs j) t done s ≡ true → Sound s
   sound-read NotArrived h = record { away = search passed; none = search passed }
   sound-read Unfinished h = record { here = search passed; short = search passed; room = search passed }
   sound-read (Finished f) h =
@@ -62,8 +61,7 @@ module _ (m : Mode) (jobs : List ℕ) (t j done : ℕ) where
   sound-read (Ended e) h =
       record { se = search passed depth 7; here = search passed depth 7; short = search passed depth 7; room = search passed depth 7; after = search passed depth 7; by = search passed depth 7 }
 
-  pub sound-test : (s : Standing) → Sound s → soundPlace m jobs t j done s ≡ true
-  unfolding soundPlace
+  pub sound-test : (s : Standing) → Sound s → soundPlace (isSE m) (arrived jobs t j) (arrival jobs j) (execution jobs j) t done s ≡ true
   sound-test NotArrived h = search passes
   sound-test Unfinished h = search passes
   sound-test (Finished f) h = search passes depth 7

@@ -126,4 +126,3 @@ module _ (g : Given) (r : Record) (few : jobCount (g .jobs) ≤ 64) where
     pub none-ended : isSE (g .mode) ≡ false → endedWord g r e ≡ 0
     unfolding endedWord jobWord
     none-ended s = word-none _ 64 (λ j _. and-false-right (ltb j (jobCount (g .jobs))) (fails (ends g r e j) (λ h. clash (ends-se g r e j h) s)))
-

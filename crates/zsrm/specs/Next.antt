@@ -1,0 +1,40 @@
+-- How the code makes the places of the next record, from one place and what the tick did to its job. No contract that callers see cites
+-- it; the laws in proofs/Laws/Next join it to "The record" and "One tick".
+use Prim.Native.Nat.{ℕ, _+_}
+use mathlib.Core.Bool.{Bool, true, _&&_, cond}
+use mathlib.Core.List.{List}
+use lib.Dec.{leb, ltb, eqb}
+use Rattle.bits.specs.Below.{bit, listFrom}
+use Rattle.zsrm.specs.declared.record.Standing.{Standing}
+use Rattle.zsrm.specs.declared.record.Standing.the-variants.{NotArrived, Unfinished, Finished, Ended}
+use Rattle.zsrm.specs.declared.record.Place.{Place}
+use Rattle.zsrm.specs.declared.record.Record.{Record}
+use Rattle.zsrm.specs.Tables.{jobCount, arrival, execution}
+use Rattle.zsrm.specs.Record.{placeAt}
+
+-- at t, a place at which nothing has run: a job's that arrives at a and has c to do, or none's
+abbrev pub openingOf : Bool → ℕ → ℕ → ℕ → Standing
+openingOf isJob a c t = cond (isJob && leb a t) (cond (eqb c 0) (Finished a) Unfinished) NotArrived
+
+-- after tick t, a job that was alive in it
+abbrev pub workedOn : ℕ → Bool → Bool → Standing
+workedOn t finishes ended = cond finishes (Finished (t + 1)) (cond ended (Ended t) Unfinished)
+
+-- after tick t, any job, done being what it has done by then
+abbrev pub nextStanding : ℕ → Bool → Bool → ℕ → ℕ → ℕ → Standing → Standing
+nextStanding t ran ended a c done NotArrived = openingOf true a c (t + 1)
+nextStanding t ran ended a c done Unfinished = workedOn t (ran && eqb done c) ended
+nextStanding t ran ended a c done (Finished f) = Finished f
+nextStanding t ran ended a c done (Ended e) = Ended e
+
+abbrev pub nextPlace : ℕ → Bool → Bool → ℕ → ℕ → Place → Place
+nextPlace t ran ended a c p =
+    record { done = p .done + cond ran 1 0; standing = nextStanding t ran ended a c (p .done + cond ran 1 0) (p .standing) }
+
+-- the place of job j after a tick in which the entry e ran and the jobs of a word were ended; places beyond the jobs stay
+unfoldable pub nextAt : List ℕ → Record → ℕ → ℕ → ℕ → Place
+nextAt jobs r e ended j =
+    cond (ltb j (jobCount jobs)) (nextPlace (r .tick) (eqb e j) (bit ended j) (arrival jobs j) (execution jobs j) (placeAt r j)) (placeAt r j)
+
+unfoldable pub nextRecord : List ℕ → Record → ℕ → ℕ → Record
+nextRecord jobs r e ended = record { tick = r .tick + 1; places = listFrom 0 64 (nextAt jobs r e ended) }
