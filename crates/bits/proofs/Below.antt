@@ -179,3 +179,13 @@ module _ (f : ℕ → Bool) where
   pub every-on : (j : ℕ) (w b v : Bool) → w ≡ every j f → b ≡ f j → v ≡ (b && w) → v ≡ every (j + 1) f
   unfolding every
   every-on j w b v p q r = rw (add-one, r, q, p, every)
+
+-- lists of values that agree
+listFrom-same : {A : Type 0} (f h : ℕ → A) (i n : ℕ) → ((k : ℕ) → k < i + n → f k ≡ h k) → listFrom i n f ≡ listFrom i n h
+unfolding listFrom
+listFrom-same f h i zero q = refl
+listFrom-same {A} f h i (suc n) q =
+    ap₂ (λ (x : A) (l : List A). x ∷ l) (q i (omega arith)) (listFrom-same f h (suc i) n (λ k l. q k (omega arith)))
+
+pub list-same : {A : Type 0} (n : ℕ) (f h : ℕ → A) → ((k : ℕ) → k < n → f k ≡ h k) → listFrom 0 n f ≡ listFrom 0 n h
+list-same n f h q = listFrom-same f h 0 n (λ k l. q k (omega arith))

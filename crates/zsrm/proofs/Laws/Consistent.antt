@@ -115,7 +115,7 @@ module _ (g : Given) (r : Record) (e : ℕ) where
       search passed depth 7
 
   -- the entry runs no job that is not alive
-  pub OnlyAlive : Type 0
+  unfoldable pub OnlyAlive : Type 0
   OnlyAlive = (j : ℕ) → j < 64 → eqb e j ≡ true → alive r j ≡ true
 
   module _ (only : OnlyAlive) where
@@ -246,3 +246,16 @@ pending-alive g r ok j l few a nf ne = go (standingAt r j) refl (sound-at g r ok
     go Unfinished q w = refl
     go (Finished f) q w = absurd (nf f q)
     go (Ended e) q w = absurd (ne e q)
+
+-- a place beyond the jobs is not arrived
+pub beyond-waits : (g : Given) (r : Record) → consistent g r ≡ true → (j : ℕ) → jobCount (g .jobs) ≤ j → j < 64 → standingAt r j ≡ NotArrived
+beyond-waits g r ok j m l = go (standingAt r j) (sound-at g r ok j l)
+  where
+    gone : {A : Type 0} → arrived (g .jobs) (r .tick) j ≡ true → A
+    gone h = let a = arrived-read (g .jobs) (r .tick) j h in absurd (omega arith)
+
+    go : (s : Standing) → Sound (g .mode) (g .jobs) (r .tick) j (doneAt r j) s → s ≡ NotArrived
+    go NotArrived w = refl
+    go Unfinished w = gone (w .here)
+    go (Finished f) w = gone (w .here)
+    go (Ended e) w = gone (w .here)
