@@ -1,6 +1,6 @@
 -- The laws of the tests over the numbers below a bound, as a proof about a definition, or a loop, asks for them.
 -- A law by the name of a definition and -same says that tests that agree below the bound give it one answer.
-use Prim.Native.Nat.{_+_, _<_, suc, zero, ℕ, _≤_}
+use Prim.Native.Nat.{_+_, _-_, _<_, suc, zero, ℕ, _≤_}
 use mathlib.Core.Bool.{_&&_, Bool, cond, false, false≢true, true, _||_}
 use mathlib.Core.List.{_++_, List, [], _∷_}
 use mathlib.Core.Logic.{inl, inr, _⊎_}
@@ -95,20 +95,26 @@ module _ (f : ℕ → Bool) where
           ∙ least-none n n (ap (λ (k : ℕ). some k f) (sym e) ∙ q) ∙ sym e
       go (inr m) ih = ih (cond (f n) n d) i m q p
 
-  -- a downward loop goes past a number that fails
+  -- the greatest is the last number where it passes, and lies below it where it fails
   pub greatest-skip : (n d : ℕ) → f n ≡ false → greatest (suc n) f d ≡ greatest n f d
   unfolding greatest
   greatest-skip n d q = ap (λ (b : Bool). cond b n (greatest n f d)) q
 
-  -- and stops at the first that passes
   pub greatest-here : (n d : ℕ) → f n ≡ true → greatest (suc n) f d ≡ n
   unfolding greatest
   greatest-here n d p = ap (λ (b : Bool). cond b n (greatest n f d)) p
 
-  -- at 0 it found none
-  pub greatest-end : (d : ℕ) → greatest 0 f d ≡ d
+  -- a downward loop at n goes past n - 1 where that fails, stops there where it passes, and at 0 has found none
+  pub greatest-down : (n d : ℕ) → 0 < n → f (n - 1) ≡ false → greatest n f d ≡ greatest (n - 1) f d
+  greatest-down n d l q = let e : n ≡ suc (n - 1) = omega arith in ap (λ (k : ℕ). greatest k f d) e ∙ greatest-skip (n - 1) d q
+
+  pub greatest-stop : (n d : ℕ) → 0 < n → f (n - 1) ≡ true → greatest n f d ≡ n - 1
+  greatest-stop n d l p = let e : n ≡ suc (n - 1) = omega arith in ap (λ (k : ℕ). greatest k f d) e ∙ greatest-here (n - 1) d p
+
+  pub greatest-end : (n d : ℕ) → n ≤ 0 → greatest n f d ≡ d
   unfolding greatest
-  greatest-end d = refl
+  greatest-end zero d l = refl
+  greatest-end (suc n) d l = absurd (not-suc-le-zero l)
 
   -- where none passes the greatest is d
   pub greatest-none : (n d : ℕ) → some n f ≡ false → greatest n f d ≡ d

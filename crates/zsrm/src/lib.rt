@@ -3,6 +3,7 @@
 mod answers;
 mod next;
 mod record;
+mod refusals;
 mod tables;
 mod tick;
 

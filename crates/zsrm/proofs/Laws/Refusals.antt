@@ -41,10 +41,14 @@ ascending-at f (suc n) k l e = go (last-or-below n k l) (ascending-at f n k)
 pub ruleset fine = (refuse-fine, before-first, before-second, or-left-false, or-right-false, ltb-false, not-false)
 
 module _ (f : ℕ → Outcome) where
-  -- one more check that is fine
-  pub ascending-next : (k : ℕ) → ascending k f ≡ Done → f k ≡ Done → ascending (k + 1) f ≡ Done
-  unfolding ascending before
-  ascending-next k q p = rw (add-one, ascending, q) p
+  -- a loop makes no check, and then each after those before it
+  pub ascending-none : ascending 0 f ≡ Done
+  unfolding ascending
+  ascending-none = refl
+
+  pub ascending-more : (k : ℕ) → ascending (k + 1) f ≡ before (ascending k f) (f k)
+  unfolding ascending
+  ascending-more k = rw (add-one, ascending)
 
   -- the checks stop at the first that refuses
   pub refused-first : (n i : ℕ) → i < n → ascending i f ≡ Done → (f i ≡ Done → ⊥) → ascending n f ≡ f i

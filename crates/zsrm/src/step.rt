@@ -1,0 +1,56 @@
+// Document 01, one tick from a record to the next: the public step and the fresh record, and the tick for those that have checked once.
+ghost use mathlib.Core.Path.{_≡_};
+ghost use mathlib.Core.Bool.{true};
+ghost use Prim.Native.Nat.{_≤_, _<_};
+ghost use Rattle.zsrm.specs.declared.answers.Outcome.{Outcome};
+ghost use Rattle.zsrm.specs.Tables.{jobCount};
+ghost use Rattle.zsrm.specs.Fields.{lists};
+ghost use Rattle.zsrm.specs.Refusals.{checkLists};
+ghost use Rattle.zsrm.specs.Record.{consistent};
+ghost use Rattle.zsrm.specs.Tick.{endedWord, advanced};
+ghost use Rattle.zsrm.specs.Legal.{dispatched};
+ghost use Rattle.zsrm.specs.View.{view, endedBy};
+ghost use Rattle.zsrm.specs.Answers.{given, stepped};
+use crate::answers::Outcome;
+use crate::answers::Stepped;
+use crate::record::is_se;
+use crate::record::Record;
+use crate::tables::Mode;
+use crate::tick::below_word;
+use crate::tick::overrun_word;
+use crate::tick::View;
+
+// The jobs that are ended in the tick in which the entry runs.
+fn ended_word(view: View, rec: Record, mode: Mode, entry: u16, tasks: &[u32], jobs: &[u32]) -> u64
+    requires { ⌜ jobCount (now jobs) ≤ 64 ⌝ }
+    ensures { λ r. ⌜ r ≡ endedBy (given mode (now (tasks .entry)) (now (jobs .entry))) rec view entry ⌝ }
+{
+    if is_se(mode) {
+        let over = overrun_word(rec, view.past, entry, tasks, jobs);
+        below_word(view.alive, over, tasks, jobs)
+    } else {
+        0
+    }
+}
+
+// The record advanced by one tick, and the jobs that the tick ended.
+pub(crate) struct Ticked {
+    pub record: Record,
+    pub ended: u64,
+}
+
+impl Record {
+    // One tick with a given entry, which may run; the view is that of the record.
+    pub(crate) fn ticked(self, view: View, mode: Mode, entry: u16, tasks: &[u32], jobs: &[u32]) -> Ticked
+        requires { ⌜ (jobCount (now jobs) ≤ 64) × (self .tick < 16384) ⌝ }
+        requires { ⌜ consistent (given mode (now tasks) (now jobs)) self ≡ true ⌝ }
+        requires { ⌜ dispatched (given mode (now tasks) (now jobs)) self entry ≡ true ⌝ }
+        requires { ⌜ view ≡ view (lists (now tasks) (now jobs)) self ⌝ }
+        ensures advances { λ r. ⌜ r .«record» ≡ advanced (given mode (now (tasks .entry)) (now (jobs .entry))) self entry ⌝ }
+        ensures ends { λ r. ⌜ r .ended ≡ endedWord (given mode (now (tasks .entry)) (now (jobs .entry))) self entry ⌝ }
+    {
+        let ended = ended_word(view, self, mode, entry, tasks, jobs);
+        let record = self.after(entry, ended, jobs);
+        Ticked { record, ended }
+    }
+}
