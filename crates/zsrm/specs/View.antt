@@ -8,7 +8,7 @@ use Rattle.bits.specs.Word.{without}
 use Rattle.zsrm.specs.declared.record.Record.{Record}
 use Rattle.zsrm.specs.declared.tick.View.{View}
 use Rattle.zsrm.specs.Tables.{Given, idle, jobCount, jobCriticality, jobPriority, jobNominal, zeroSlackInstant}
-use Rattle.zsrm.specs.Record.{doneAt}
+use Rattle.zsrm.specs.Record.{isSE, doneAt}
 use Rattle.zsrm.specs.Tick.{alive, someJob, jobWord}
 
 module _ (g : Given) where
@@ -60,3 +60,7 @@ module _ (g : Given) where
   -- the lowest-numbered eligible job of the top priority that is ready
   unfoldable pub chosen : View → ℕ
   chosen v = lowestOf (v .eligible) (greatest 64 (bit (v .ready)) 64)
+
+  -- the jobs ended in the tick in which the entry e runs
+  unfoldable pub endedBy : Record → View → ℕ → ℕ
+  endedBy r v e = cond (isSE (g .mode)) (belowWord (v .alive) (overrunWord r (v .past) e)) 0

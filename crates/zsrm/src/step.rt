@@ -13,21 +13,21 @@ ghost use Rattle.zsrm.specs.View.{view, endedBy};
 ghost use Rattle.zsrm.specs.Answers.{given, stepped};
 use crate::answers::Outcome;
 use crate::answers::Stepped;
-use crate::record::is_se;
 use crate::record::Record;
+use crate::record::is_se;
 use crate::tables::Mode;
+use crate::tick::View;
 use crate::tick::below_word;
 use crate::tick::overrun_word;
-use crate::tick::View;
 
 // The jobs that are ended in the tick in which the entry runs.
-fn ended_word(view: View, rec: Record, mode: Mode, entry: u16, tasks: &[u32], jobs: &[u32]) -> u64
+fn ended_word(seen: View, rec: Record, mode: Mode, entry: u16, tasks: &[u32], jobs: &[u32]) -> u64
     requires { ⌜ jobCount (now jobs) ≤ 64 ⌝ }
-    ensures { λ r. ⌜ r ≡ endedBy (given mode (now (tasks .entry)) (now (jobs .entry))) rec view entry ⌝ }
+    ensures { λ r. ⌜ r ≡ endedBy (given mode (now (tasks .entry)) (now (jobs .entry))) rec seen entry ⌝ }
 {
     if is_se(mode) {
-        let over = overrun_word(rec, view.past, entry, tasks, jobs);
-        below_word(view.alive, over, tasks, jobs)
+        let over = overrun_word(rec, seen.past, entry, tasks, jobs);
+        below_word(seen.alive, over, tasks, jobs)
     } else {
         0
     }
@@ -40,16 +40,23 @@ pub(crate) struct Ticked {
 }
 
 impl Record {
-    // One tick with a given entry, which may run; the view is that of the record.
-    pub(crate) fn ticked(self, view: View, mode: Mode, entry: u16, tasks: &[u32], jobs: &[u32]) -> Ticked
+    // One tick with a given entry, which may run; what is seen is the view of the record.
+    pub(crate) fn ticked(
+        self,
+        seen: View,
+        mode: Mode,
+        entry: u16,
+        tasks: &[u32],
+        jobs: &[u32],
+    ) -> Ticked
         requires { ⌜ (jobCount (now jobs) ≤ 64) × (self .tick < 16384) ⌝ }
         requires { ⌜ consistent (given mode (now tasks) (now jobs)) self ≡ true ⌝ }
         requires { ⌜ dispatched (given mode (now tasks) (now jobs)) self entry ≡ true ⌝ }
-        requires { ⌜ view ≡ view (lists (now tasks) (now jobs)) self ⌝ }
+        requires { ⌜ seen ≡ view (lists (now tasks) (now jobs)) self ⌝ }
         ensures advances { λ r. ⌜ r .«record» ≡ advanced (given mode (now (tasks .entry)) (now (jobs .entry))) self entry ⌝ }
         ensures ends { λ r. ⌜ r .ended ≡ endedWord (given mode (now (tasks .entry)) (now (jobs .entry))) self entry ⌝ }
     {
-        let ended = ended_word(view, self, mode, entry, tasks, jobs);
+        let ended = ended_word(seen, self, mode, entry, tasks, jobs);
         let record = self.after(entry, ended, jobs);
         Ticked { record, ended }
     }

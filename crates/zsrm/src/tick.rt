@@ -102,7 +102,7 @@ fn lies_below(among: u64, by: u64, j: u32, tasks: &[u32], jobs: &[u32]) -> bool
 }
 
 // The jobs of one set that some job of another outranks.
-fn below_word(among: u64, by: u64, tasks: &[u32], jobs: &[u32]) -> u64
+pub(crate) fn below_word(among: u64, by: u64, tasks: &[u32], jobs: &[u32]) -> u64
     requires { ⌜ jobCount (now jobs) ≤ 64 ⌝ }
     ensures { λ r. ⌜ r ≡ belowWord (lists (now (tasks .entry)) (now (jobs .entry))) among by ⌝ }
 {
@@ -169,7 +169,7 @@ fn overruns(among: u64, entry: u16, j: u32, done: u32, tasks: &[u32], jobs: &[u3
 }
 
 // The jobs of a set whose done, with one more for the one that runs, exceeds C.
-fn overrun_word(rec: Record, among: u64, entry: u16, tasks: &[u32], jobs: &[u32]) -> u64
+pub(crate) fn overrun_word(rec: Record, among: u64, entry: u16, tasks: &[u32], jobs: &[u32]) -> u64
     requires { ⌜ jobCount (now jobs) ≤ 64 ⌝ }
     ensures { λ r. ⌜ r ≡ overrunWord (lists (now (tasks .entry)) (now (jobs .entry))) rec among entry ⌝ }
 {

@@ -36,20 +36,20 @@ module _ (g : Given) (okTasks : checkTasks (g .tasks) ≡ Done) (okJobs : checkJ
         criticality-most = t .criticality-most;
       }
 
-  -- in a consistent record nothing done exceeds the tick, and the tick after the last still fits
-  pub record InRange (r : Record) (j : ℕ) : Type 0 where
-    pub tick-most : r .tick ≤ 16384
-    pub done-tick : doneAt r j ≤ r .tick
-    pub done-most : doneAt r j + 1 ≤ 16385
+-- in a consistent record nothing done exceeds the tick, and the tick after the last still fits
+pub record InRange (r : Record) (j : ℕ) : Type 0 where
+  pub tick-most : r .tick ≤ 16384
+  pub done-tick : doneAt r j ≤ r .tick
+  pub done-most : doneAt r j + 1 ≤ 16385
 
-  pub in-range : (r : Record) → consistent g r ≡ true → (j : ℕ) → j < 64 → InRange r j
-  in-range r ok j l =
-      let top = consistent-tick g r ok in
-      let d = go (standingAt r j) (sound-at g r ok j l) in
-      record { tick-most = top; done-tick = d; done-most = omega arith }
-    where
-      go : (s : Standing) → Sound (g .mode) (g .jobs) (r .tick) j (doneAt r j) s → doneAt r j ≤ r .tick
-      go NotArrived w = omega (arith, w .none)
-      go Unfinished w = omega (arith, w .room)
-      go (Finished f) w = omega (arith, w .room)
-      go (Ended e) w = omega (arith, w .room)
+pub in-range : (g : Given) (r : Record) → consistent g r ≡ true → (j : ℕ) → j < 64 → InRange r j
+in-range g r ok j l =
+    let top = consistent-tick g r ok in
+    let d = go (standingAt r j) (sound-at g r ok j l) in
+    record { tick-most = top; done-tick = d; done-most = omega arith }
+  where
+    go : (s : Standing) → Sound (g .mode) (g .jobs) (r .tick) j (doneAt r j) s → doneAt r j ≤ r .tick
+    go NotArrived w = omega (arith, w .none)
+    go Unfinished w = omega (arith, w .room)
+    go (Finished f) w = omega (arith, w .room)
+    go (Ended e) w = omega (arith, w .room)

@@ -10,14 +10,17 @@ use borrow.Author.Tests.{lt-ltb, ltb-true}
 use Rattle.bits.specs.Below.{bit, greatest, word}
 use Rattle.bits.specs.Word.{without}
 use Rattle.bits.proofs.Below.{least-same, some-same}
-use Rattle.bits.proofs.Bools.{and-false-right, clash, either, fails}
+use Rattle.bits.proofs.Bools.{and-false-right, by-cond, clash, either, fails}
 use Rattle.bits.proofs.Word.{bit-word, highest-word, upTo, without-word, word-none, word-same}
 use Rattle.zsrm.specs.declared.record.Record.{Record}
+use Rattle.zsrm.specs.declared.tables.Mode.{Mode}
 use Rattle.zsrm.specs.declared.tick.View.{View}
+use Rattle.zsrm.specs.Answers.{given}
+use Rattle.zsrm.specs.Fields.{lists}
 use Rattle.zsrm.specs.Record.{doneAt, isSE}
 use Rattle.zsrm.specs.Tables.{Given, idle, jobCount, jobCriticality, jobNominal, jobPriority, zeroSlackInstant}
 use Rattle.zsrm.specs.Tick.{alive, candidate, choice, doneAfter, eligible, endedWord, ends, jobWord, moreCritical, over, pastZeroSlack, readyAt, readyWord, someJob, suspended}
-use Rattle.zsrm.specs.View.{belowWord, chosen, hasPriority, isPast, liesBelow, lowestOf, outranked, outranks, overrunWord, overruns, pastWord, priorityWord, view}
+use Rattle.zsrm.specs.View.{belowWord, chosen, endedBy, hasPriority, isPast, liesBelow, lowestOf, outranked, outranks, overrunWord, overruns, pastWord, priorityWord, view}
 use Rattle.zsrm.proofs.Laws.Consistent.{ends-se}
 use Rattle.zsrm.proofs.Laws.Ready.{candidate-top}
 
@@ -126,3 +129,38 @@ module _ (g : Given) (r : Record) (few : jobCount (g .jobs) ≤ 64) where
     pub none-ended : isSE (g .mode) ≡ false → endedWord g r e ≡ 0
     unfolding endedWord jobWord
     none-ended s = word-none _ 64 (λ j _. and-false-right (ltb j (jobCount (g .jobs))) (fails (ends g r e j) (λ h. clash (ends-se g r e j h) s)))
+
+-- the mode plays no part in what is seen and chosen
+module _ (m : Mode) (tasks jobs : List ℕ) where
+  pub view-any : (r : Record) → view (lists tasks jobs) r ≡ view (given m tasks jobs) r
+  unfolding view pastWord isPast belowWord liesBelow outranked outranks priorityWord hasPriority someJob zeroSlackInstant jobCriticality jobPriority
+  view-any r = refl
+
+  pub chosen-any : (v : View) → chosen (lists tasks jobs) v ≡ chosen (given m tasks jobs) v
+  unfolding chosen lowestOf hasPriority jobPriority
+  chosen-any v = refl
+
+  ended-any : (r : Record) (v : View) (e : ℕ)
+      → belowWord (lists tasks jobs) (v .alive) (overrunWord (lists tasks jobs) r (v .past) e)
+      ≡ belowWord (given m tasks jobs) (v .alive) (overrunWord (given m tasks jobs) r (v .past) e)
+  unfolding belowWord liesBelow outranked outranks someJob overrunWord overruns jobCriticality jobNominal
+  ended-any r v e = refl
+
+  -- what the code ends, in either mode
+  pub ended-se : (r : Record) (v : View) (e over w : ℕ) → isSE m ≡ true → over ≡ overrunWord (lists tasks jobs) r (v .past) e
+      → w ≡ belowWord (lists tasks jobs) (v .alive) over → w ≡ endedBy (given m tasks jobs) r v e
+  unfolding endedBy
+  ended-se r v e over w se p q = rw se (q ∙ ap (belowWord (lists tasks jobs) (v .alive)) p ∙ ended-any r v e)
+
+  pub ended-s : (r : Record) (v : View) (e : ℕ) → isSE m ≡ false → 0 ≡ endedBy (given m tasks jobs) r v e
+  unfolding endedBy
+  ended-s r v e s = rw s
+
+  -- is what the tick ends
+  pub ended-seen : jobCount jobs ≤ 64 → (r : Record) (v : View) (e : ℕ) → v ≡ view (lists tasks jobs) r
+      → endedBy (given m tasks jobs) r v e ≡ endedWord (given m tasks jobs) r e
+  unfolding endedBy
+  ended-seen few r v e q =
+      rw (q ∙ view-any r)
+      (by-cond (λ w. w ≡ endedWord (given m tasks jobs) r e) (isSE m) (belowWord (given m tasks jobs) (view (given m tasks jobs) r .alive) (overrunWord (given m tasks jobs) r (view (given m tasks jobs) r .past) e)) 0
+      (λ se. ended-view (given m tasks jobs) r few e se) (λ s. sym (none-ended (given m tasks jobs) r few e s)))
