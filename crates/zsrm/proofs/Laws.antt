@@ -12,5 +12,6 @@ pub mod Replay
 pub mod Steady
 pub mod Run
 pub mod Topmost
+pub mod Step
 pub mod Said
 pub mod Answers

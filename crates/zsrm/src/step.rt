@@ -60,4 +60,25 @@ impl Record {
         let record = self.after(entry, ended, jobs);
         Ticked { record, ended }
     }
+
+    // One tick of our run, on lists that passed their checks, from a consistent record before tick 16,384.
+    pub(crate) fn advance(self, mode: Mode, tasks: &[u32], jobs: &[u32]) -> Stepped
+        requires { ⌜ checkLists (now tasks) (now jobs) ≡ Outcome.Done ⌝ }
+        requires { ⌜ (consistent (given mode (now tasks) (now jobs)) self ≡ true) × (self .tick < 16384) ⌝ }
+        ensures { λ r. ⌜ r ≡ stepped (given mode (now (tasks .entry)) (now (jobs .entry))) self ⌝ }
+    {
+        let seen = View::at(self, tasks, jobs);
+        let entry = seen.choice(tasks, jobs);
+        let next = self.ticked(seen, mode, entry, tasks, jobs);
+        let record = next.record;
+        let ones = bits::ones(seen.ready);
+        Stepped {
+            outcome: Outcome::Done,
+            record,
+            ready: seen.ready,
+            ones,
+            entry,
+            ended: next.ended,
+        }
+    }
 }
