@@ -10,11 +10,19 @@ ghost use Rattle.zsrm.specs.Record.{consistent};
 ghost use Rattle.zsrm.specs.Tick.{endedWord, advanced};
 ghost use Rattle.zsrm.specs.Legal.{dispatched};
 ghost use Rattle.zsrm.specs.View.{view, endedBy};
-ghost use Rattle.zsrm.specs.Answers.{given, stepped};
+ghost use Rattle.zsrm.specs.Answers.{given, ran, refusedStep, stepped, checkStep, freshAnswer, stepAnswer};
 use crate::answers::Outcome;
+use crate::answers::Ran;
 use crate::answers::Stepped;
 use crate::record::Record;
+use crate::record::blank;
+use crate::record::fresh_record;
+use crate::record::is_consistent;
 use crate::record::is_se;
+use crate::refusals::before;
+use crate::refusals::check_lists;
+use crate::refusals::check11;
+use crate::refusals::check12;
 use crate::tables::Mode;
 use crate::tick::View;
 use crate::tick::below_word;
@@ -31,6 +39,50 @@ fn ended_word(seen: View, rec: Record, mode: Mode, entry: u16, tasks: &[u32], jo
     } else {
         0
     }
+}
+
+// A refused answer's record is blank.
+pub(crate) fn ran(outcome: Outcome, made: Record) -> Ran
+    ensures { λ r. ⌜ r ≡ ran outcome made ⌝ }
+{
+    match outcome {
+        Outcome::Done => Ran {
+            outcome: Outcome::Done,
+            record: made,
+        },
+        Outcome::Refused(number, place) => {
+            let record = blank();
+            Ran {
+                outcome: Outcome::Refused(number, place),
+                record,
+            }
+        }
+    }
+}
+
+// A refused step's record is blank, and every other number in it is 0.
+fn refused_step(number: u32, place: u32) -> Stepped
+    ensures { λ r. ⌜ r ≡ refusedStep number place ⌝ }
+{
+    let record = blank();
+    Stepped {
+        outcome: Outcome::Refused(number, place),
+        record,
+        ready: 0,
+        ones: 0,
+        entry: 0,
+        ended: 0,
+    }
+}
+
+fn check_step(rec: Record, mode: Mode, tasks: &[u32], jobs: &[u32]) -> Outcome
+    ensures { λ r. ⌜ r ≡ checkStep (given mode (now (tasks .entry)) (now (jobs .entry))) rec ⌝ }
+{
+    let consistent = check11(is_consistent(rec, mode, tasks, jobs));
+    before(
+        check_lists(tasks, jobs),
+        before(consistent, check12(rec.tick)),
+    )
 }
 
 // The record advanced by one tick, and the jobs that the tick ended.
@@ -79,6 +131,24 @@ impl Record {
             ones,
             entry,
             ended: next.ended,
+        }
+    }
+
+    // The fresh record of the jobs, whatever this one holds; refusals 2 to 8.
+    pub fn fresh(self, tasks: &[u32], jobs: &[u32]) -> Ran
+        ensures { λ r. ⌜ r ≡ freshAnswer (now (tasks .entry)) (now (jobs .entry)) ⌝ }
+    {
+        ran(check_lists(tasks, jobs), fresh_record(jobs))
+    }
+
+    // The record advanced by one tick, with what the tick did; refusals 2 to 8, 11, 12.
+    pub fn step(self, mode: Mode, tasks: &[u32], jobs: &[u32]) -> Stepped
+        ensures { λ r. ⌜ r ≡ stepAnswer (given mode (now (tasks .entry)) (now (jobs .entry))) self ⌝ }
+    {
+        let checked = check_step(self, mode, tasks, jobs);
+        match checked {
+            Outcome::Done => self.advance(mode, tasks, jobs),
+            Outcome::Refused(number, place) => refused_step(number, place),
         }
     }
 }

@@ -6,20 +6,22 @@ use mathlib.Core.Path.{ap, refl, sym, _∙_, _≡_}
 use native.Mathlib.Omega.{arith}
 use lib.Dec.{eqb}
 use lib.ListN.{length}
-use borrow.Author.Tests.{eqb-true, le-leb, lt-ltb, ltb-false, not-false}
+use borrow.Author.Tests.{eqb-false, eqb-true, le-leb, lt-ltb, ltb-false, not-false}
+use Rattle.bits.proofs.Most.{most}
 use Rattle.zsrm.specs.declared.answers.Outcome.{Outcome}
 use Rattle.zsrm.specs.declared.answers.Outcome.the-variants.{Done, Refused}
 use Rattle.zsrm.specs.declared.answers.Verdict.the-variants.{Met}
 use Rattle.zsrm.specs.declared.record.Record.{Record}
 use Rattle.zsrm.specs.declared.record.Standing.the-variants.{Finished}
-use Rattle.zsrm.specs.Answers.{checkGiven, checkSchedule, checkVerdict, claimAnswer, claimSaid, runSchedule, unless, verdictAnswer}
+use Rattle.zsrm.specs.Answers.{checkGiven, checkSchedule, checkStep, checkVerdict, claimAnswer, claimSaid, runSchedule, unless, verdictAnswer}
 use Rattle.zsrm.specs.Legal.{claim}
 use Rattle.zsrm.specs.Record.{consistent, standingAt}
-use Rattle.zsrm.specs.Refusals.{before, check10, check11, check13, check9, checkJobs, checkLists, checkTasks, refuse}
+use Rattle.zsrm.specs.Refusals.{before, check10, check11, check12, check13, check9, checkJobs, checkLists, checkTasks, refuse}
 use Rattle.zsrm.specs.Run.{runEntries}
 use Rattle.zsrm.specs.Tables.{Given, deadlineInstant, jobCount}
 use Rattle.zsrm.specs.Verdict.{judged, verdict}
 use Rattle.zsrm.proofs.Laws.Accepted.{few-jobs}
+use Rattle.zsrm.proofs.Laws.Consistent.{consistent-tick}
 use Rattle.zsrm.proofs.Laws.Refusals.{before-first, before-second, refuse-fine}
 use Rattle.zsrm.proofs.Laws.Run.{length-run, our-run-legal}
 use Rattle.zsrm.proofs.Laws.Said.{claim-said}
@@ -91,3 +93,23 @@ run-claim g horizon lent ok =
     let mine : checkSchedule g horizon es ≡ Done = accepted-again g horizon lent es (length-run g horizon) ok in
     rw (unless-done (λ number place. lent) es (checkSchedule g horizon lent) ok)
     (unless-done claims.Refused (claim g es) (checkSchedule g horizon es) mine ∙ our-run-legal g (few-jobs (g .tasks) (g .jobs) (a .jobs)) horizon (a .bounded))
+
+module _ {A : Type 0} (refused : ℕ → ℕ → A) (answer : A) where
+  pub unless-refused : (o : Outcome) (number place : ℕ) → o ≡ Refused number place → unless o refused answer ≡ refused number place
+  unfolding unless
+  unless-refused o n p e = ap (λ (x : Outcome). unless x refused answer) e
+
+-- what a step that is not refused says of its record
+pub record Steps (g : Given) (r : Record) : Type 0 where
+  pub lists : checkLists (g .tasks) (g .jobs) ≡ Done
+  pub sound : consistent g r ≡ true
+  pub time : r .tick < 16384
+
+pub steps : (g : Given) (r : Record) → checkStep g r ≡ Done → Steps g r
+unfolding checkStep checkGiven check11 check12
+steps g r ok =
+    let rest = before-second (checkLists (g .tasks) (g .jobs)) _ ok in
+    let sound = not-false (consistent g r) (refuse-fine _ _ _ (before-first (check11 (consistent g r)) _ rest)) in
+    let late = eqb-false (r .tick) 16384 (refuse-fine _ _ _ (before-second (check11 (consistent g r)) _ rest)) in
+    let most = consistent-tick g r sound in
+    record { lists = before-first (checkLists (g .tasks) (g .jobs)) _ ok; sound = sound; time = omega arith }
