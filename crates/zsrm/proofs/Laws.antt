@@ -13,5 +13,6 @@ pub mod Steady
 pub mod Run
 pub mod Topmost
 pub mod Step
+pub mod Going
 pub mod Said
 pub mod Answers

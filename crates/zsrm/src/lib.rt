@@ -4,6 +4,7 @@ mod answers;
 mod next;
 mod record;
 mod refusals;
+mod runs;
 mod step;
 mod tables;
 mod tick;
