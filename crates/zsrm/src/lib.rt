@@ -18,6 +18,7 @@ pub use answers::Witness;
 pub use record::Place;
 pub use record::Record;
 pub use record::Standing;
+pub use runs::run;
 pub use tables::Criticality;
 pub use tables::Mode;
 pub use tables::Priority;

@@ -1,8 +1,8 @@
 -- What an answer that is no refusal says of the checks, and what acceptance says of the lists.
-use Prim.Native.Nat.{_<_, ℕ, _≤_}
+use Prim.Native.Nat.{_+_, _<_, ℕ, _≤_}
 use mathlib.Core.Bool.{not, true}
 use mathlib.Core.List.{List, [], _∷_}
-use mathlib.Core.Path.{ap, refl, sym, _∙_, _≡_}
+use mathlib.Core.Path.{ap, ap₂, refl, sym, _∙_, _≡_}
 use native.Mathlib.Omega.{arith}
 use lib.Dec.{eqb}
 use lib.ListN.{length}
@@ -13,15 +13,16 @@ use Rattle.zsrm.specs.declared.answers.Outcome.the-variants.{Done, Refus
 use Rattle.zsrm.specs.declared.answers.Verdict.the-variants.{Met}
 use Rattle.zsrm.specs.declared.record.Record.{Record}
 use Rattle.zsrm.specs.declared.record.Standing.the-variants.{Finished}
-use Rattle.zsrm.specs.Answers.{checkGiven, checkSchedule, checkStep, checkVerdict, claimAnswer, claimSaid, runSchedule, unless, verdictAnswer}
+use Rattle.zsrm.specs.Answers.{checkGiven, checkSchedule, checkStep, checkVerdict, claimAnswer, claimSaid, ran, runAnswer, runSchedule, unless, verdictAnswer}
 use Rattle.zsrm.specs.Legal.{claim}
-use Rattle.zsrm.specs.Record.{consistent, standingAt}
+use Rattle.zsrm.specs.Record.{consistent, fresh, standingAt}
 use Rattle.zsrm.specs.Refusals.{before, check10, check11, check12, check13, check9, checkJobs, checkLists, checkTasks, refuse}
-use Rattle.zsrm.specs.Run.{runEntries}
+use Rattle.zsrm.specs.Run.{entries, final, runEntries, runRecord}
 use Rattle.zsrm.specs.Tables.{Given, deadlineInstant, jobCount}
 use Rattle.zsrm.specs.Verdict.{judged, verdict}
 use Rattle.zsrm.proofs.Laws.Accepted.{few-jobs}
-use Rattle.zsrm.proofs.Laws.Consistent.{consistent-tick}
+use Rattle.zsrm.proofs.Laws.Consistent.{consistent-tick, fresh-consistent}
+use Rattle.zsrm.proofs.Laws.Places.{tick-fresh}
 use Rattle.zsrm.proofs.Laws.Refusals.{before-first, before-second, refuse-fine}
 use Rattle.zsrm.proofs.Laws.Run.{length-run, our-run-legal}
 use Rattle.zsrm.proofs.Laws.Said.{claim-said}
@@ -113,3 +114,36 @@ steps g r ok =
     let late = eqb-false (r .tick) 16384 (refuse-fine _ _ _ (before-second (check11 (consistent g r)) _ rest)) in
     let most = consistent-tick g r sound in
     record { lists = before-first (checkLists (g .tasks) (g .jobs)) _ ok; sound = sound; time = omega arith }
+
+-- the run's answer and list, where nothing is refused and where something is
+module _ (g : Given) (horizon : ℕ) (lent : List ℕ) where
+  pub run-done : checkSchedule g horizon lent ≡ Done → (made : Record) → made ≡ final g (fresh (g .jobs)) (length lent) → ran Done made ≡ runAnswer g horizon lent
+  unfolding runAnswer runRecord
+  run-done ok made e =
+      ap₂ ran (sym ok) (e ∙ ap (final g (fresh (g .jobs))) (accepted g horizon lent ok .whole))
+
+  pub run-writes : checkSchedule g horizon lent ≡ Done → (l : List ℕ) → l ≡ entries g (fresh (g .jobs)) (length lent) → l ≡ runSchedule g horizon lent
+  unfolding runSchedule runEntries
+  run-writes ok l e =
+      e ∙ ap (entries g (fresh (g .jobs))) (accepted g horizon lent ok .whole)
+      ∙ sym (unless-done (λ number place. lent) (runEntries g horizon) (checkSchedule g horizon lent) ok)
+
+  pub run-refused : (number place : ℕ) → checkSchedule g horizon lent ≡ Refused number place → (x : Record) → ran (Refused number place) x ≡ runAnswer g horizon lent
+  unfolding runAnswer ran unless
+  run-refused n p e x = rw e
+
+  pub run-keeps : (number place : ℕ) → checkSchedule g horizon lent ≡ Refused number place → lent ≡ runSchedule g horizon lent
+  unfolding runSchedule
+  run-keeps n p e = sym (unless-refused (λ number place. lent) (runEntries g horizon) (checkSchedule g horizon lent) n p e)
+
+-- what a run from the fresh record may rely on
+pub record Starts (g : Given) (lent : List ℕ) (r : Record) : Type 0 where
+  pub lists : checkLists (g .tasks) (g .jobs) ≡ Done
+  pub sound : consistent g r ≡ true
+  pub room : r .tick + length lent ≤ 16384
+
+pub starts : (g : Given) (horizon : ℕ) (lent : List ℕ) (r : Record) → checkSchedule g horizon lent ≡ Done → r ≡ fresh (g .jobs) → Starts g lent r
+unfolding checkGiven
+starts g horizon lent r ok q =
+    let a = accepted g horizon lent ok in
+    record { lists = a .lists; sound = rw q (fresh-consistent g); room = let z = ap (λ (x : Record). x .tick) q ∙ tick-fresh (g .jobs) in omega arith }

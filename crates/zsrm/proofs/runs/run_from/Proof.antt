@@ -39,17 +39,21 @@ loop-again c =
     let start = c .before .before .before .before .before .before .before in
     let s = steps-entry (given (start .args .mode) (start .args .tasks .now) (start .args .jobs .now)) (at .loop .rec) _ (c .before .advance .ensures) in
     let fits = start .pre .1 .1 in
-    let more = c .before .before .loop-test .taken in
-    (omega arith, length-set (at .loop .schedule) (at .loop .t) _ ∙ at .loop .inv .1, going-more (given (start .args .mode) (start .args .tasks .now) (start .args .jobs .now)) (start .args .start) (at .loop .rec) _ (at .loop .t) (at .loop .inv .2) (omega (arith, at .loop .inv .1)) (s .1),
-    going-writes (given (start .args .mode) (start .args .tasks .now) (start .args .jobs .now)) (start .args .start) (at .loop .rec) (at .loop .schedule) (at .loop .t) _ (at .loop .inv .2) (at .loop .inv .3) more (s .0))
+    let more = c .before .before .loop-test .taken in (
+      omega arith,
+      length-set (at .loop .schedule) (at .loop .t) _ ∙ at .loop .inv .1,
+      going-more (given (start .args .mode) (start .args .tasks .now) (start .args .jobs .now)) (start .args .start) (at .loop .rec) _ (at .loop .t) (at .loop .inv .2) (omega (arith, at .loop .inv .1)) (s .1),
+      going-writes (given (start .args .mode) (start .args .tasks .now) (start .args .jobs .now)) (start .args .start) (at .loop .rec) (at .loop .schedule) (at .loop .t) _ (at .loop .inv .2) (at .loop .inv .3) more (s .0),
+    )
 
 returns : tie.Need-returns Inv-loop μ-loop
 returns c =
     let at = c .before in
     let start = c .before .before .before .before .before in
-    let last : at .loop .t ≡ length (start .args .schedule .now) = omega (arith, at .loop .inv .1) in
-    (at .loop .inv .2 .is ∙ ap (final (given (start .args .mode) (start .args .tasks .now) (start .args .jobs .now)) (start .args .start)) last,
-    sym (take-all (at .loop .t) (at .loop .schedule) (omega (arith, at .loop .inv .1))) ∙ at .loop .inv .3 ∙ ap (entries (given (start .args .mode) (start .args .tasks .now) (start .args .jobs .now)) (start .args .start)) last)
+    let last : at .loop .t ≡ length (start .args .schedule .now) = omega (arith, at .loop .inv .1) in (
+      at .loop .inv .2 .is ∙ ap (final (given (start .args .mode) (start .args .tasks .now) (start .args .jobs .now)) (start .args .start)) last,
+      sym (take-all (at .loop .t) (at .loop .schedule) (omega (arith, at .loop .inv .1))) ∙ at .loop .inv .3 ∙ ap (entries (given (start .args .mode) (start .args .tasks .now) (start .args .jobs .now)) (start .args .start)) last,
+    )
 
 pub run-from-spec : {M : Type 1} → statement M
 run-from-spec =
