@@ -14,5 +14,6 @@ pub mod Run
 pub mod Topmost
 pub mod Step
 pub mod Going
+pub mod Claims
 pub mod Said
 pub mod Answers

@@ -12,7 +12,7 @@ use Rattle.zsrm.specs.Tables.{Given, idle, jobCount, arrival, jobNominal
 use Rattle.zsrm.specs.Record.{isSE, doneAt, standingAt, fresh}
 use Rattle.zsrm.specs.Tick.{someJob, candidate, advanced}
 
-unfoldable pub finishedAt : ℕ → Standing → Bool
+abbrev pub finishedAt : ℕ → Standing → Bool
 finishedAt t NotArrived = false
 finishedAt t Unfinished = false
 finishedAt t (Finished f) = eqb f t

@@ -7,6 +7,7 @@ pub mod View
 pub mod Next
 pub mod Run
 pub mod Legal
+pub mod Claims
 pub mod Verdict
 pub mod Answers
 pub mod Bytes

@@ -132,7 +132,7 @@ fn priority_word(among: u64, tasks: &[u32], jobs: &[u32]) -> u64
     word
 }
 
-fn has_priority(among: u64, p: Priority, j: u32, tasks: &[u32], jobs: &[u32]) -> bool
+pub(crate) fn has_priority(among: u64, p: Priority, j: u32, tasks: &[u32], jobs: &[u32]) -> bool
     ensures { λ r. ⌜ r ≡ hasPriority (lists (now (tasks .entry)) (now (jobs .entry))) among (p .0) j ⌝ }
 {
     bits::has_bit(among, j) & priority_of(tasks, jobs, j).equals(p)

@@ -1,0 +1,31 @@
+-- How the code checks an entry of a claim, from the view of the record. No contract that callers see cites it; the laws in
+-- proofs/Laws/Claims join it to "Legal schedules".
+use Prim.Native.Nat.{ℕ}
+use mathlib.Core.Bool.{Bool, _&&_, _||_, cond}
+use lib.Dec.{ltb, eqb}
+use Rattle.bits.specs.Below.{greatest, bit}
+use Rattle.zsrm.specs.declared.record.Place.{Place}
+use Rattle.zsrm.specs.declared.record.Record.{Record}
+use Rattle.zsrm.specs.declared.tick.View.{View}
+use Rattle.zsrm.specs.declared.claims.Tried.{Tried}
+use Rattle.zsrm.specs.Tables.{Given, idle, jobCount, arrival, jobNominal, zeroSlackInstant}
+use Rattle.zsrm.specs.Tick.{advanced}
+use Rattle.zsrm.specs.View.{hasPriority}
+use Rattle.zsrm.specs.Legal.{finishedAt, legalEntry}
+
+module _ (g : Given) where
+  -- job j, at the place p, makes tick t a scheduling instant, the entry before being b
+  unfoldable pub turnsAt : Bool → ℕ → ℕ → ℕ → Place → Bool
+  turnsAt se b t j p =
+      eqb (arrival (g .jobs) j) t || finishedAt t (p .standing) || eqb (zeroSlackInstant g j) t
+      || (se && eqb b j && eqb (p .done) (jobNominal g j))
+
+  -- an eligible job of the top priority that is ready, or idle where none is ready
+  unfoldable pub mayRun : View → ℕ → Bool
+  mayRun v e =
+      (ltb e (jobCount (g .jobs)) && hasPriority g (v .eligible) (greatest 64 (bit (v .ready)) 64) e)
+      || (eqb e idle && eqb (v .ready) 0)
+
+  -- whether the entry is legal, and the record that it leads to
+  unfoldable pub tried : Record → ℕ → ℕ → Tried
+  tried r b e = record { legal = legalEntry g r b e; «record» = cond (legalEntry g r b e) (advanced g r e) r }

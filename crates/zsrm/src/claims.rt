@@ -1,0 +1,145 @@
+// Document 01, "Legal schedules": a claimed schedule replayed tick by tick, up to the least tick that is not legal.
+ghost use mathlib.Core.Path.{_≡_};
+ghost use mathlib.Core.Bool.{true};
+ghost use Prim.Native.Nat.{_≤_, _<_};
+ghost use lib.ListN.{length};
+ghost use Rattle.zsrm.specs.declared.answers.Outcome.{Outcome};
+ghost use Rattle.zsrm.specs.declared.answers.Claim.{Claim};
+ghost use Rattle.zsrm.specs.Tables.{jobCount};
+ghost use Rattle.zsrm.specs.Fields.{lists};
+ghost use Rattle.zsrm.specs.Refusals.{checkLists};
+ghost use Rattle.zsrm.specs.Record.{consistent};
+ghost use Rattle.zsrm.specs.View.{view};
+ghost use Rattle.zsrm.specs.Run.{replayed};
+ghost use Rattle.zsrm.specs.Legal.{finishedAt, schedulingInstant, dispatched, legalEntry, claim};
+ghost use Rattle.zsrm.specs.Claims.{turnsAt, mayRun, tried};
+ghost use Rattle.zsrm.specs.Answers.{given, claimAnswer};
+use crate::answers::Claim;
+use crate::answers::Outcome;
+use crate::record::Place;
+use crate::record::Record;
+use crate::record::Standing;
+use crate::record::fresh_record;
+use crate::record::is_se;
+use crate::runs::check_schedule;
+use crate::tables::Mode;
+use crate::tables::Priority;
+use crate::tables::job_at;
+use crate::tables::job_count;
+use crate::tables::nominal_of;
+use crate::tables::zero_slack_instant;
+use crate::tick::View;
+use crate::tick::has_priority;
+
+fn is_finished_at(t: u32, standing: Standing) -> bool
+    ensures { λ r. ⌜ r ≡ finishedAt t standing ⌝ }
+{
+    match standing {
+        Standing::NotArrived => false,
+        Standing::Unfinished => false,
+        Standing::Finished(f) => f == t,
+        Standing::Ended(_) => false,
+    }
+}
+
+// Whether a job, at its place, makes tick t a scheduling instant.
+fn turns(se: bool, last: u16, t: u32, j: u32, place: Place, tasks: &[u32], jobs: &[u32]) -> bool
+    ensures { λ r. ⌜ r ≡ turnsAt (lists (now (tasks .entry)) (now (jobs .entry))) se last t j place ⌝ }
+{
+    let job = job_at(jobs, j);
+    let standing = place.standing;
+    let reached = se & ((last as u32) == j) & (place.done == nominal_of(tasks, jobs, j));
+    (job.arrival == t)
+        | is_finished_at(t, standing)
+        | (zero_slack_instant(tasks, jobs, j) == (t as u64))
+        | reached
+}
+
+// Whether the record's tick is a scheduling instant, the entry before it being given.
+fn is_instant(rec: Record, mode: Mode, last: u16, tasks: &[u32], jobs: &[u32]) -> bool
+    requires { ⌜ jobCount (now jobs) ≤ 64 ⌝ }
+    ensures { λ r. ⌜ r ≡ schedulingInstant (given mode (now (tasks .entry)) (now (jobs .entry))) rec last ⌝ }
+{
+    let n = job_count(jobs);
+    let se = is_se(mode);
+    let t = rec.tick;
+    let mut j: usize = 0;
+    while j < n {
+        let place = rec.places[j];
+        if turns(se, last, t, j as u32, place, tasks, jobs) {
+            return true;
+        }
+        j += 1;
+    }
+    false
+}
+
+// Whether the entry is a candidate, or idle with no candidate.
+fn may_run(seen: View, entry: u16, tasks: &[u32], jobs: &[u32]) -> bool
+    ensures { λ r. ⌜ r ≡ mayRun (lists (now (tasks .entry)) (now (jobs .entry))) seen entry ⌝ }
+{
+    let top = Priority(bits::highest(seen.ready));
+    let listed = (entry as usize) < job_count(jobs);
+    (listed & has_priority(seen.eligible, top, entry as u32, tasks, jobs))
+        | ((entry == 65535) & (seen.ready == 0))
+}
+
+// Whether the entry is legal in the record's tick, given the entry before; what is seen is the view of the record.
+fn is_legal(
+    seen: View,
+    rec: Record,
+    mode: Mode,
+    last: u16,
+    entry: u16,
+    tasks: &[u32],
+    jobs: &[u32],
+) -> bool
+    requires { ⌜ checkLists (now tasks) (now jobs) ≡ Outcome.Done ⌝ }
+    requires { ⌜ seen ≡ view (lists (now tasks) (now jobs)) rec ⌝ }
+    ensures { λ r. ⌜ r ≡ legalEntry (given mode (now (tasks .entry)) (now (jobs .entry))) rec last entry ⌝ }
+{
+    if may_run(seen, entry, tasks, jobs) {
+        if (rec.tick == 0) | (entry == last) {
+            true
+        } else {
+            is_instant(rec, mode, last, tasks, jobs)
+        }
+    } else {
+        false
+    }
+}
+
+// Whether an entry is legal, and the record that it leads to; where it is not, the record as it was.
+pub(crate) struct Tried {
+    pub legal: bool,
+    pub record: Record,
+}
+
+// One entry of a claim, from a consistent record before tick 16,384.
+pub(crate) fn try_entry(
+    rec: Record,
+    mode: Mode,
+    last: u16,
+    entry: u16,
+    tasks: &[u32],
+    jobs: &[u32],
+) -> Tried
+    requires { ⌜ checkLists (now tasks) (now jobs) ≡ Outcome.Done ⌝ }
+    requires { ⌜ (consistent (given mode (now tasks) (now jobs)) rec ≡ true) × (rec .tick < 16384) ⌝ }
+    ensures { λ r. ⌜ r ≡ tried (given mode (now (tasks .entry)) (now (jobs .entry))) rec last entry ⌝ }
+{
+    let seen = View::at(rec, tasks, jobs);
+    if is_legal(seen, rec, mode, last, entry, tasks, jobs) {
+        let next = rec.ticked(seen, mode, entry, tasks, jobs);
+        let record = next.record;
+        Tried {
+            legal: true,
+            record,
+        }
+    } else {
+        Tried {
+            legal: false,
+            record: rec,
+        }
+    }
+}
