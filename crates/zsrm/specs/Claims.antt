@@ -2,16 +2,21 @@
 -- proofs/Laws/Claims join it to "Legal schedules".
 use Prim.Native.Nat.{ℕ}
 use mathlib.Core.Bool.{Bool, _&&_, _||_, cond}
+use mathlib.Core.List.{List}
+use mathlib.Core.Path.{_≡_}
 use lib.Dec.{ltb, eqb}
 use Rattle.bits.specs.Below.{greatest, bit}
 use Rattle.zsrm.specs.declared.record.Place.{Place}
 use Rattle.zsrm.specs.declared.record.Record.{Record}
 use Rattle.zsrm.specs.declared.tick.View.{View}
 use Rattle.zsrm.specs.declared.claims.Tried.{Tried}
+use Rattle.zsrm.specs.declared.claims.Replayed.{Replayed}
+use Rattle.zsrm.specs.declared.answers.Claim.the-variants.{Legal}
 use Rattle.zsrm.specs.Tables.{Given, idle, jobCount, arrival, jobNominal, zeroSlackInstant}
 use Rattle.zsrm.specs.Tick.{advanced}
 use Rattle.zsrm.specs.View.{hasPriority}
-use Rattle.zsrm.specs.Legal.{finishedAt, legalEntry}
+use Rattle.zsrm.specs.Run.{replayed}
+use Rattle.zsrm.specs.Legal.{finishedAt, legalEntry, claim}
 
 module _ (g : Given) where
   -- job j, at the place p, makes tick t a scheduling instant, the entry before being b
@@ -29,3 +34,8 @@ module _ (g : Given) where
   -- whether the entry is legal, and the record that it leads to
   unfoldable pub tried : Record → ℕ → ℕ → Tried
   tried r b e = record { legal = legalEntry g r b e; «record» = cond (legalEntry g r b e) (advanced g r e) r }
+
+-- what replaying a schedule finds, and where it is legal the record at its end
+pub record ReplayedAs (g : Given) (schedule : List ℕ) (r : Replayed) : Type 0 where
+  pub says : r .claim ≡ claim g schedule
+  pub ends : claim g schedule ≡ Legal → r .«record» ≡ replayed g schedule

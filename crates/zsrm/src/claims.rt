@@ -4,15 +4,13 @@ ghost use mathlib.Core.Bool.{true};
 ghost use Prim.Native.Nat.{_≤_, _<_};
 ghost use lib.ListN.{length};
 ghost use Rattle.zsrm.specs.declared.answers.Outcome.{Outcome};
-ghost use Rattle.zsrm.specs.declared.answers.Claim.{Claim};
 ghost use Rattle.zsrm.specs.Tables.{jobCount};
 ghost use Rattle.zsrm.specs.Fields.{lists};
 ghost use Rattle.zsrm.specs.Refusals.{checkLists};
 ghost use Rattle.zsrm.specs.Record.{consistent};
 ghost use Rattle.zsrm.specs.View.{view};
-ghost use Rattle.zsrm.specs.Run.{replayed};
-ghost use Rattle.zsrm.specs.Legal.{finishedAt, schedulingInstant, dispatched, legalEntry, claim};
-ghost use Rattle.zsrm.specs.Claims.{turnsAt, mayRun, tried};
+ghost use Rattle.zsrm.specs.Legal.{finishedAt, schedulingInstant, legalEntry};
+ghost use Rattle.zsrm.specs.Claims.{turnsAt, mayRun, tried, ReplayedAs};
 ghost use Rattle.zsrm.specs.Answers.{given, claimAnswer};
 use crate::answers::Claim;
 use crate::answers::Outcome;
@@ -141,5 +139,54 @@ pub(crate) fn try_entry(
             legal: false,
             record: rec,
         }
+    }
+}
+
+// What replaying a claim finds, and the record at the claim's end where it is legal.
+pub(crate) struct Replayed {
+    pub claim: Claim,
+    pub record: Record,
+}
+
+// A whole schedule replayed, up to the least tick that is not legal.
+pub(crate) fn replay(mode: Mode, tasks: &[u32], jobs: &[u32], schedule: &[u16]) -> Replayed
+    requires { ⌜ (checkLists (now tasks) (now jobs) ≡ Outcome.Done) × (length (now schedule) ≤ 16384) ⌝ }
+    ensures { λ r. ⌜ ReplayedAs (given mode (now (tasks .entry)) (now (jobs .entry))) (now (schedule .entry)) r ⌝ }
+{
+    let mut rec = fresh_record(jobs);
+    let mut last: u16 = 65535;
+    let mut t: usize = 0;
+    while t < schedule.len() {
+        let entry = schedule[t];
+        let tried = try_entry(rec, mode, last, entry, tasks, jobs);
+        let next = tried.record;
+        if tried.legal {
+            rec = next;
+            last = entry;
+            t += 1;
+        } else {
+            return Replayed {
+                claim: Claim::NotLegal(t as u32),
+                record: next,
+            };
+        }
+    }
+    Replayed {
+        claim: Claim::Legal,
+        record: rec,
+    }
+}
+
+// Whether a claimed schedule is legal, or the least tick at which it is not; refusals 2 to 10.
+pub fn claim(mode: Mode, tasks: &[u32], jobs: &[u32], horizon: u32, schedule: &[u16]) -> Claim
+    ensures { λ r. ⌜ r ≡ claimAnswer (given mode (now (tasks .entry)) (now (jobs .entry))) horizon (now (schedule .entry)) ⌝ }
+{
+    let checked = check_schedule(tasks, jobs, horizon, schedule.len());
+    match checked {
+        Outcome::Done => {
+            let replayed = replay(mode, tasks, jobs, schedule);
+            replayed.claim
+        }
+        Outcome::Refused(number, place) => Claim::Refused(number, place),
     }
 }

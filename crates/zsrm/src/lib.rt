@@ -16,6 +16,7 @@ pub use answers::Ran;
 pub use answers::Stepped;
 pub use answers::Verdict;
 pub use answers::Witness;
+pub use claims::claim;
 pub use record::Place;
 pub use record::Record;
 pub use record::Standing;

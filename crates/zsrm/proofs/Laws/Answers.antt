@@ -147,3 +147,7 @@ unfolding checkGiven
 starts g horizon lent r ok q =
     let a = accepted g horizon lent ok in
     record { lists = a .lists; sound = rw q (fresh-consistent g); room = let z = ap (λ (x : Record). x .tick) q ∙ tick-fresh (g .jobs) in omega arith }
+
+pub accepted-lists : (g : Given) (horizon : ℕ) (schedule : List ℕ) → Accepted g horizon schedule → checkLists (g .tasks) (g .jobs) ≡ Done
+unfolding checkGiven
+accepted-lists g horizon schedule a = a .lists

@@ -1,32 +1,40 @@
 -- The code's tests of a claim's entry are document 01's, and a replay that goes on with legal entries.
-use Prim.Native.Nat.{_<_, ℕ, _≤_}
+use Prim.Native.Nat.{_+_, _<_, suc, ℕ, _≤_}
 use mathlib.Core.Bool.{_&&_, Bool, false, not, or-false, true, _||_}
-use mathlib.Core.List.{List}
+use mathlib.Core.List.{List, [], _∷_}
 use mathlib.Core.Logic.{inl, inr, _⊎_}
 use mathlib.Core.Path.{ap, ap₂, refl, sym, _∙_, _≡_}
+use native.Mathlib.Numerals.{add-one}
 use native.Mathlib.Omega.{arith}
 use lib.Dec.{eqb, ltb}
+use lib.ListN.{drop, drop-of-length-le, getD, length}
+use lib.Seq.{drop-cons}
 use borrow.Author.Tests.{eq-eqb, eqb-true, ltb-true, not-true}
 use Rattle.bits.specs.Below.{bit, greatest, some, word}
 use Rattle.bits.proofs.Below.{some-found}
 use Rattle.bits.proofs.Bools.{and-left, and-true, clash, either, fails, not-of, or-left-false, or-right, or-right-false, same-test}
 use Rattle.bits.proofs.Word.{bit-above, bit-word, highest-word, word-none}
+use Rattle.zsrm.specs.declared.answers.Claim.the-variants.{Legal, NotLegal}
 use Rattle.zsrm.specs.declared.answers.Outcome.the-variants.{Done}
 use Rattle.zsrm.specs.declared.claims.Tried.{Tried}
 use Rattle.zsrm.specs.declared.record.Record.{Record}
 use Rattle.zsrm.specs.declared.tables.Mode.{Mode}
 use Rattle.zsrm.specs.declared.tick.View.{View}
 use Rattle.zsrm.specs.Answers.{given}
-use Rattle.zsrm.specs.Claims.{mayRun, tried, turnsAt}
+use Rattle.zsrm.specs.Claims.{ReplayedAs, mayRun, tried, turnsAt}
 use Rattle.zsrm.specs.Fields.{lists}
-use Rattle.zsrm.specs.Legal.{dispatched, legalEntry, schedulingInstant, turns}
-use Rattle.zsrm.specs.Record.{doneAt, isSE, placeAt, standingAt}
+use Rattle.zsrm.specs.Legal.{claim, claimFrom, dispatched, legalEntry, schedulingInstant, turns}
+use Rattle.zsrm.specs.Record.{consistent, doneAt, fresh, isSE, placeAt, standingAt}
 use Rattle.zsrm.specs.Refusals.{checkLists}
+use Rattle.zsrm.specs.Run.{replay, replayed}
 use Rattle.zsrm.specs.Tables.{Given, idle, jobCount, jobNominal, jobPriority, zeroSlackInstant}
 use Rattle.zsrm.specs.Tick.{advanced, candidate, eligible, readyAt, readyWord, someJob}
 use Rattle.zsrm.specs.View.{hasPriority, view}
+use Rattle.zsrm.proofs.Laws.Consistent.{advanced-consistent, fresh-consistent}
+use Rattle.zsrm.proofs.Laws.Places.{tick-advanced, tick-fresh}
 use Rattle.zsrm.proofs.Laws.Ranges.{bounded}
 use Rattle.zsrm.proofs.Laws.Ready.{candidate-top, ready-of}
+use Rattle.zsrm.proofs.Laws.Replay.{claim-goes-on, claim-stops}
 use Rattle.zsrm.proofs.Laws.Step.{lists-few, lists-jobs, lists-tasks}
 use Rattle.zsrm.proofs.Laws.Tick.{candidate-eligible, some-candidate}
 use Rattle.zsrm.proofs.Laws.View.{jobWord-bit, seen, view-any}
@@ -128,3 +136,47 @@ module _ (g : Given) (r : Record) (last e : ℕ) where
   pub tried-illegal : legalEntry g r last e ≡ false → _≡_ {A = Tried} (record { legal = false; «record» = r }) (tried g r last e)
   unfolding tried
   tried-illegal h = rw h
+
+-- a replay that has come to tick t: what is left to claim from here is what the whole claims
+pub record Replaying (g : Given) (schedule : List ℕ) (r : Record) (last t : ℕ) : Type 0 where
+  pub says : claim g schedule ≡ claimFrom g r last (drop t schedule)
+  pub ends : replayed g schedule ≡ replay g r (drop t schedule)
+  pub sound : consistent g r ≡ true
+  pub time : r .tick ≡ t
+
+module _ (g : Given) (schedule : List ℕ) where
+  pub replaying-none : (r : Record) → r ≡ fresh (g .jobs) → Replaying g schedule r idle 0
+  unfolding claim replayed
+  replaying-none r q = record { says = rw q; ends = rw q; sound = rw q (fresh-consistent g); time = rw q (tick-fresh (g .jobs)) }
+
+  pub replaying-more : (r next : Record) (last t e : ℕ) → Replaying g schedule r last t → t < length schedule → length schedule ≤ 16384 → e ≡ getD schedule t 0
+      → legalEntry g r last e ≡ true → next ≡ advanced g r e → Replaying g schedule next e (t + 1)
+  unfolding replay
+  replaying-more r next last t e w b limit q h n =
+      let here : drop t schedule ≡ e ∷ drop (suc t) schedule = drop-cons schedule t 0 b ∙ ap (λ (x : ℕ). x ∷ drop (suc t) schedule) (sym q) in
+      record {
+        says = rw (add-one, n) (w .says ∙ ap (claimFrom g r last) here ∙ claim-goes-on g r last e (drop (suc t) schedule) h);
+        ends = rw (add-one, n) (w .ends ∙ ap (replay g r) here);
+        sound = rw n (advanced-consistent g r e (omega (arith, w .time)) (legal-may g r last e h) (w .sound));
+        time = rw (add-one, n) (tick-advanced g r e ∙ ap suc (w .time));
+      }
+
+  pub replaying-stops : (r : Record) (last t e : ℕ) → Replaying g schedule r last t → t < length schedule → e ≡ getD schedule t 0 → legalEntry g r last e ≡ false
+      → claim g schedule ≡ NotLegal t
+  replaying-stops r last t e w b q h =
+      w .says ∙ ap (claimFrom g r last) (drop-cons schedule t 0 b ∙ ap (λ (x : ℕ). x ∷ drop (suc t) schedule) (sym q))
+      ∙ claim-stops g r last e (drop (suc t) schedule) h ∙ ap NotLegal (w .time)
+
+  pub replaying-ends : (r : Record) (last t : ℕ) → Replaying g schedule r last t → length schedule ≤ t → (claim g schedule ≡ Legal) × (replayed g schedule ≡ r)
+  unfolding claimFrom replay
+  replaying-ends r last t w b =
+      let none : drop t schedule ≡ [] = drop-of-length-le schedule b in
+      (w .says ∙ ap (claimFrom g r last) none, w .ends ∙ ap (replay g r) none)
+
+-- what a test of one entry says
+pub tried-says : (g : Given) (r : Record) (last e : ℕ) (x : Tried) → x ≡ tried g r last e → (x .legal ≡ legalEntry g r last e) × (legalEntry g r last e ≡ true → x .«record» ≡ advanced g r e)
+unfolding tried
+tried-says g r last e x q = (ap (λ (y : Tried). y .legal) q, λ h. ap (λ (y : Tried). y .«record») q ∙ rw h)
+
+pub replayed-stopped : (g : Given) (schedule : List ℕ) (t : ℕ) (x : Record) → claim g schedule ≡ NotLegal t → ReplayedAs g schedule (record { claim = NotLegal t; «record» = x })
+replayed-stopped g schedule t x q = record { says = sym q; ends = λ h. let z : _≡_ {A = ℕ} 0 1 = cc in absurd (omega arith) }
