@@ -15,5 +15,6 @@ pub mod Topmost
 pub mod Step
 pub mod Going
 pub mod Claims
+pub mod Verdicts
 pub mod Said
 pub mod Answers

@@ -494,7 +494,7 @@ Judged g r j verdicts.Open = (standingAt r j ≡ NotArrived) ⊎ ((alive r j ≡
 Judged g r j (verdicts.Refused number place) = ⊥
 
 pub verdict-reads : (g : Given) (r : Record) (j : ℕ) (v : Verdict) → verdict g r j ≡ v ↔ Judged g r j v
-unfolding verdict judged
+unfolding verdict
 verdict-reads g r j v = (λ e. subst J e (holds (standingAt r j) refl), back v)
   where
     J : Verdict → Type 0
@@ -503,7 +503,7 @@ verdict-reads g r j v = (λ e. subst J e (holds (standingAt r j) refl), back v)
     D : ℕ
     D = deadlineInstant g j
 
-    holds : (s : Standing) → standingAt r j ≡ s → J (judged g (r .tick) j s)
+    holds : (s : Standing) → standingAt r j ≡ s → J (judged D (r .tick) s)
     holds (Ended e) q = (e, q)
     holds (Finished f) q =
         by-cond J (leb f D) verdicts.Met verdicts.Late (λ h. (f, q, leb-true f D h)) (λ h. inl (f, q, leb-false f D h))

@@ -18,20 +18,19 @@ use Rattle.zsrm.specs.Record.{standingAt}
 use Rattle.zsrm.specs.Run.{replayed}
 use Rattle.zsrm.specs.Legal.{claim}
 
-module _ (g : Given) where
-  -- Ended; met if finished at f ≤ arrival + D; late if finished later, or alive with H ≥ arrival + D; open otherwise.
-  unfoldable pub judged : ℕ → ℕ → Standing → Verdict
-  judged h j (Ended e) = verdicts.Ended
-  judged h j (Finished f) = cond (leb f (deadlineInstant g j)) verdicts.Met verdicts.Late
-  judged h j Unfinished = cond (leb (deadlineInstant g j) h) verdicts.Late verdicts.Open
-  judged h j NotArrived = verdicts.Open
+-- Ended; met if finished at f ≤ arrival + D; late if finished later, or alive with H ≥ arrival + D; open otherwise. due is arrival + D.
+abbrev pub judged : ℕ → ℕ → Standing → Verdict
+judged due h (Ended e) = verdicts.Ended
+judged due h (Finished f) = cond (leb f due) verdicts.Met verdicts.Late
+judged due h Unfinished = cond (leb due h) verdicts.Late verdicts.Open
+judged due h NotArrived = verdicts.Open
 
-  -- The verdict on job j from a record, H being its own tick.
-  unfoldable pub verdict : Record → ℕ → Verdict
-  verdict r j = judged (r .tick) j (standingAt r j)
+-- The verdict on job j from a record, H being its own tick.
+unfoldable pub verdict : Given → Record → ℕ → Verdict
+verdict g r j = judged (deadlineInstant g j) (r .tick) (standingAt r j)
 
 -- Missed means late or ended.
-unfoldable pub missed : Verdict → Bool
+abbrev pub missed : Verdict → Bool
 missed (verdicts.Refused number place) = false
 missed verdicts.Met = false
 missed verdicts.Late = true
@@ -39,29 +38,29 @@ missed verdicts.Ended = true
 missed verdicts.Open = false
 
 -- The answers to a witness, in order: not legal at t; not missed; accepted.
-unfoldable pub answered : Claim → Bool → Witness
+abbrev pub answered : Claim → Bool → Witness
 answered (claims.Refused number place) isMissed = witnesses.Refused number place
 answered (claims.NotLegal t) isMissed = witnesses.NotLegal t
 answered claims.Legal false = witnesses.NotMissed
 answered claims.Legal true = witnesses.Accepted
+
+-- The entries from arrival up to the finishing instant; for a job in every other standing the empty part.
+abbrev pub partTo : ℕ → List ℕ → Standing → List ℕ
+partTo a schedule NotArrived = []
+partTo a schedule Unfinished = []
+partTo a schedule (Finished f) = take (f - a) (drop a schedule)
+partTo a schedule (Ended e) = []
 
 module _ (g : Given) (schedule : List ℕ) where
   -- A witness is a claim with a job number.
   unfoldable pub witness : ℕ → Witness
   witness j = answered (claim g schedule) (missed (verdict g (replayed g schedule) j))
 
-  -- The entries from arrival up to the finishing instant; for a job in every other standing the empty part.
-  unfoldable pub partBy : ℕ → Standing → List ℕ
-  partBy j NotArrived = []
-  partBy j Unfinished = []
-  partBy j (Finished f) = take (f - arrival (g .jobs) j) (drop (arrival (g .jobs) j) schedule)
-  partBy j (Ended e) = []
-
   -- An illegal claim gives the empty part too.
   unfoldable pub partOf : ℕ → Claim → List ℕ
   partOf j (claims.Refused number place) = []
   partOf j (claims.NotLegal t) = []
-  partOf j claims.Legal = partBy j (standingAt (replayed g schedule) j)
+  partOf j claims.Legal = partTo (arrival (g .jobs) j) schedule (standingAt (replayed g schedule) j)
 
   unfoldable pub part : ℕ → List ℕ
   part j = partOf j (claim g schedule)

@@ -9,6 +9,7 @@ mod runs;
 mod step;
 mod tables;
 mod tick;
+mod verdicts;
 
 pub use answers::Claim;
 pub use answers::Outcome;

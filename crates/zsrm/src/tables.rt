@@ -3,7 +3,7 @@
 ghost use mathlib.Core.Path.{_≡_};
 ghost use lib.ListN.{getD};
 ghost use lib.Dec.{ltb, eqb};
-ghost use Rattle.zsrm.specs.Tables.{jobCount, taskOf, jobCriticality, jobPriority, jobNominal, zeroSlackInstant};
+ghost use Rattle.zsrm.specs.Tables.{jobCount, taskOf, jobCriticality, jobPriority, jobNominal, zeroSlackInstant, deadlineInstant};
 ghost use Rattle.zsrm.specs.Fields.{lists, taskAt, jobAt};
 
 // ZSRM-S suspends; ZSRM-SE suspends and ends.
@@ -111,6 +111,15 @@ pub(crate) fn zero_slack_instant(tasks: &[u32], jobs: &[u32], j: u32) -> u64
     let job = job_at(jobs, j);
     let task = task_of(tasks, jobs, j);
     (job.arrival as u64) + (task.slack as u64)
+}
+
+// arrival + D
+pub(crate) fn deadline_instant(tasks: &[u32], jobs: &[u32], j: u32) -> u64
+    ensures { λ r. ⌜ r ≡ deadlineInstant (lists (now (tasks .entry)) (now (jobs .entry))) j ⌝ }
+{
+    let job = job_at(jobs, j);
+    let task = task_of(tasks, jobs, j);
+    (job.arrival as u64) + (task.deadline as u64)
 }
 
 impl Criticality {

@@ -19,7 +19,7 @@ use Rattle.zsrm.specs.Record.{consistent, fresh, standingAt}
 use Rattle.zsrm.specs.Refusals.{before, check10, check11, check12, check13, check9, checkJobs, checkLists, checkTasks, refuse}
 use Rattle.zsrm.specs.Run.{entries, final, runEntries, runRecord}
 use Rattle.zsrm.specs.Tables.{Given, deadlineInstant, jobCount}
-use Rattle.zsrm.specs.Verdict.{judged, verdict}
+use Rattle.zsrm.specs.Verdict.{verdict}
 use Rattle.zsrm.proofs.Laws.Accepted.{few-jobs}
 use Rattle.zsrm.proofs.Laws.Consistent.{consistent-tick, fresh-consistent}
 use Rattle.zsrm.proofs.Laws.Places.{tick-fresh}
@@ -80,7 +80,7 @@ is-legal g horizon schedule e =
 -- a job that is finished by its deadline is judged met
 pub met-answer : (g : Given) → checkGiven g ≡ Done → (r : Record) → consistent g r ≡ true → (j : ℕ) → j < jobCount (g .jobs)
     → (f : ℕ) → standingAt r j ≡ Finished f → f ≤ deadlineInstant g j → verdictAnswer g r j ≡ Met
-unfolding verdictAnswer checkVerdict check11 check13 verdict judged refuse before unless
+unfolding verdictAnswer checkVerdict check11 check13 verdict refuse before unless
 met-answer g lists r sound j l f q b =
     rw (lists, sound, lt-ltb j (jobCount (g .jobs)) l, q, le-leb f (deadlineInstant g j) b)
 

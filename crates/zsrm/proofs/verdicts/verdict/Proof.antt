@@ -1,0 +1,35 @@
+-- What the checks answer decides: the verdict, or the refusal.
+use mathlib.Core.Path.{sym, _∙_}
+use native.Mathlib.Omega.{arith}
+use borrow.Author.Needs.{needs}
+use Rattle.zsrm.specs.declared.answers.Verdict.the-variants as verdicts
+use Rattle.zsrm.specs.Verdict.{verdict}
+use Rattle.zsrm.specs.Answers.{given, checkVerdict, verdictAnswer}
+use Rattle.zsrm.proofs.Laws.Answers.{unless-done, unless-refused}
+use Rattle.zsrm.proofs.Laws.Verdicts.{verdict-any, verdict-named}
+use Rattle.zsrm.proofs.verdicts.verdict.Statement.{statement}
+use Rattle.zsrm.proofs.verdicts.verdict.Tie as tie
+
+judge-at-requires : tie.Need-judge-at-requires
+judge-at-requires c κs =
+    let start = c .before .before .before .before .before in
+    let w = verdict-named (given (start .args .mode) (start .args .tasks .now) (start .args .jobs .now)) (start .args .rec) (start .args .job) (sym (c .before .before .check-verdict .ensures) ∙ c .enum-told .given .1) in
+    omega arith
+
+returns : tie.Need-returns
+unfolding verdictAnswer
+returns c =
+    let start = c .before .before .before .before .before .before in
+    let a = start .args in
+    c .judge-at .ensures ∙ verdict-any (start .args .mode) (start .args .tasks .now) (start .args .jobs .now) (a .rec) (a .job)
+    ∙ sym (unless-done verdicts.Refused (verdict (given (start .args .mode) (start .args .tasks .now) (start .args .jobs .now)) (a .rec) (a .job)) (checkVerdict (given (start .args .mode) (start .args .tasks .now) (start .args .jobs .now)) (a .rec) (a .job)) (sym (c .before .before .before .check-verdict .ensures) ∙ c .before .enum-told .given .1))
+
+returns-2 : tie.Need-returns-2
+unfolding verdictAnswer
+returns-2 c =
+    let start = c .before .before .before .before .before .before in
+    let a = start .args in
+    sym (unless-refused verdicts.Refused (verdict (given (start .args .mode) (start .args .tasks .now) (start .args .jobs .now)) (a .rec) (a .job)) (checkVerdict (given (start .args .mode) (start .args .tasks .now) (start .args .jobs .now)) (a .rec) (a .job)) _ _ (sym (c .before .before .before .check-verdict .ensures) ∙ c .before .checked .given .1))
+
+pub verdict-spec : {M : Type 1} → statement M
+verdict-spec = tie.close (tie.spec (λ c κs. search needs) (λ c. search needs) judge-at-requires (λ c. search needs) returns returns-2)

@@ -1,0 +1,141 @@
+// Document 01, verdicts, witnesses, and the part of the caller's schedule that is shown.
+ghost use mathlib.Core.Path.{_≡_};
+ghost use mathlib.Core.Bool.{cond};
+ghost use mathlib.Core.List.{List};
+ghost use Prim.Native.Nat.{ℕ, _≤_, _<_};
+ghost use lib.ListN.{length};
+ghost use Rattle.zsrm.specs.declared.tables.Mode.{Mode};
+ghost use Rattle.zsrm.specs.Tables.{arrival};
+ghost use Rattle.zsrm.specs.Fields.{lists};
+ghost use Rattle.zsrm.specs.Record.{standingAt};
+ghost use Rattle.zsrm.specs.Verdict.{judged, verdict, missed, answered, partTo};
+ghost use Rattle.zsrm.specs.Answers.{given, checkVerdict, checkWitness, verdictAnswer, witnessAnswer, responseAnswer};
+use crate::answers::Claim;
+use crate::answers::Outcome;
+use crate::answers::Verdict;
+use crate::answers::Witness;
+use crate::claims::replay;
+use crate::record::Record;
+use crate::record::Standing;
+use crate::record::is_consistent;
+use crate::refusals::before;
+use crate::refusals::check_lists;
+use crate::refusals::check11;
+use crate::refusals::check13;
+use crate::runs::check_schedule;
+use crate::tables::Mode;
+use crate::tables::deadline_instant;
+use crate::tables::job_at;
+
+fn either(test: bool, passes: Verdict, fails: Verdict) -> Verdict
+    ensures { λ r. ⌜ r ≡ cond test passes fails ⌝ }
+{
+    if test { passes } else { fails }
+}
+
+// The verdict by a job's standing at the instant h, due being its arrival + D.
+fn judge(due: u64, h: u32, standing: Standing) -> Verdict
+    ensures { λ r. ⌜ r ≡ judged due h standing ⌝ }
+{
+    match standing {
+        Standing::NotArrived => Verdict::Open,
+        Standing::Unfinished => either(due <= (h as u64), Verdict::Late, Verdict::Open),
+        Standing::Finished(f) => either((f as u64) <= due, Verdict::Met, Verdict::Late),
+        Standing::Ended(_) => Verdict::Ended,
+    }
+}
+
+// The verdict on a job of the list from a record, at the record's own tick.
+fn judge_at(rec: Record, tasks: &[u32], jobs: &[u32], j: u32) -> Verdict
+    requires { ⌜ j < 64 ⌝ }
+    ensures { λ r. ⌜ r ≡ verdict (lists (now (tasks .entry)) (now (jobs .entry))) rec j ⌝ }
+{
+    let i = j as usize;
+    let place = rec.places[i];
+    let standing = place.standing;
+    judge(deadline_instant(tasks, jobs, j), rec.tick, standing)
+}
+
+fn check_verdict(rec: Record, mode: Mode, tasks: &[u32], jobs: &[u32], j: u32) -> Outcome
+    ensures { λ r. ⌜ r ≡ checkVerdict (given mode (now (tasks .entry)) (now (jobs .entry))) rec j ⌝ }
+{
+    let consistent = check11(is_consistent(rec, mode, tasks, jobs));
+    before(
+        check_lists(tasks, jobs),
+        before(consistent, check13(jobs, j)),
+    )
+}
+
+// The verdict on a job from a record, such as a run returns; refusals 2 to 8, 11, 13.
+pub fn verdict(rec: Record, mode: Mode, tasks: &[u32], jobs: &[u32], job: u32) -> Verdict
+    ensures { λ r. ⌜ r ≡ verdictAnswer (given mode (now (tasks .entry)) (now (jobs .entry))) rec job ⌝ }
+{
+    let checked = check_verdict(rec, mode, tasks, jobs, job);
+    match checked {
+        Outcome::Done => judge_at(rec, tasks, jobs, job),
+        Outcome::Refused(number, place) => Verdict::Refused(number, place),
+    }
+}
+
+// Late or ended.
+fn is_missed(verdict: Verdict) -> bool
+    ensures { λ r. ⌜ r ≡ missed verdict ⌝ }
+{
+    match verdict {
+        Verdict::Refused(_, _) => false,
+        Verdict::Met => false,
+        Verdict::Late => true,
+        Verdict::Ended => true,
+        Verdict::Open => false,
+    }
+}
+
+// The answers to a witness, in order.
+fn answer(claim: Claim, is_miss: bool) -> Witness
+    ensures { λ r. ⌜ r ≡ answered claim «is_miss» ⌝ }
+{
+    match claim {
+        Claim::Refused(number, place) => Witness::Refused(number, place),
+        Claim::Legal => {
+            if is_miss {
+                Witness::Accepted
+            } else {
+                Witness::NotMissed
+            }
+        }
+        Claim::NotLegal(t) => Witness::NotLegal(t),
+    }
+}
+
+// What a witness and the response part check of their input, in either mode: 2 to 10, 13.
+fn check_witness(tasks: &[u32], jobs: &[u32], horizon: u32, entries: usize, j: u32) -> Outcome
+    ensures { λ r. ⌜ ((m : Mode) (s : List ℕ) → length s ≡ entries → r ≡ checkWitness (given m (now (tasks .entry)) (now (jobs .entry))) horizon s j) ⌝ }
+{
+    before(
+        check_schedule(tasks, jobs, horizon, entries),
+        check13(jobs, j),
+    )
+}
+
+// Whether a claimed schedule is a witness that the job missed; refusals 2 to 10, 13.
+pub fn witness(
+    mode: Mode,
+    tasks: &[u32],
+    jobs: &[u32],
+    horizon: u32,
+    schedule: &[u16],
+    job: u32,
+) -> Witness
+    ensures { λ r. ⌜ r ≡ witnessAnswer (given mode (now (tasks .entry)) (now (jobs .entry))) horizon (now (schedule .entry)) job ⌝ }
+{
+    let checked = check_witness(tasks, jobs, horizon, schedule.len(), job);
+    match checked {
+        Outcome::Done => {
+            let replayed = replay(mode, tasks, jobs, schedule);
+            let record = replayed.record;
+            let claim = replayed.claim;
+            answer(claim, is_missed(judge_at(record, tasks, jobs, job)))
+        }
+        Outcome::Refused(number, place) => Witness::Refused(number, place),
+    }
+}
