@@ -8,7 +8,7 @@ ghost use Rattle.zsrm.specs.declared.tables.Mode.{Mode};
 ghost use Rattle.zsrm.specs.Tables.{arrival};
 ghost use Rattle.zsrm.specs.Fields.{lists};
 ghost use Rattle.zsrm.specs.Record.{standingAt};
-ghost use Rattle.zsrm.specs.Verdict.{judged, verdict, missed, answered, partTo};
+ghost use Rattle.zsrm.specs.Verdict.{judged, verdict, missed, answered, partTo, FitsIn};
 ghost use Rattle.zsrm.specs.Answers.{given, checkVerdict, checkWitness, verdictAnswer, witnessAnswer, responseAnswer};
 use crate::answers::Claim;
 use crate::answers::Outcome;
@@ -139,3 +139,18 @@ pub fn witness(
         Outcome::Refused(number, place) => Witness::Refused(number, place),
     }
 }
+
+// The entries of a finished job, from its arrival up to its finishing instant; for every other standing the empty part.
+fn finished_part<'a>(standing: Standing, jobs: &[u32], j: u32, schedule: &'a [u16]) -> &'a [u16]
+    requires { ⌜ FitsIn (arrival (now jobs) j) (now schedule) standing ⌝ }
+    ensures { λ r. ⌜ now r ≡ partTo (arrival (now (jobs .entry)) j) (now (schedule .entry)) standing ⌝ }
+{
+    let Standing::Finished(f) = standing else {
+        return &schedule[0..0];
+    };
+    let job = job_at(jobs, j);
+    let from = job.arrival as usize;
+    let to = f as usize;
+    &schedule[from..to]
+}
+
