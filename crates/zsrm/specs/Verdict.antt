@@ -51,6 +51,12 @@ partTo a schedule Unfinished = []
 partTo a schedule (Finished f) = take (f - a) (drop a schedule)
 partTo a schedule (Ended e) = []
 
+-- An illegal claim gives the empty part too.
+abbrev pub shownBy : Claim → List ℕ → List ℕ
+shownBy (claims.Refused number place) part = []
+shownBy (claims.NotLegal t) part = []
+shownBy claims.Legal part = part
+
 -- a finishing instant that lies within the schedule, at or after arrival: what the code asks before it takes the part
 abbrev pub FitsIn : ℕ → List ℕ → Standing → Type 0
 FitsIn a schedule NotArrived = Unit {0}
@@ -63,11 +69,5 @@ module _ (g : Given) (schedule : List ℕ) where
   unfoldable pub witness : ℕ → Witness
   witness j = answered (claim g schedule) (missed (verdict g (replayed g schedule) j))
 
-  -- An illegal claim gives the empty part too.
-  unfoldable pub partOf : ℕ → Claim → List ℕ
-  partOf j (claims.Refused number place) = []
-  partOf j (claims.NotLegal t) = []
-  partOf j claims.Legal = partTo (arrival (g .jobs) j) schedule (standingAt (replayed g schedule) j)
-
   unfoldable pub part : ℕ → List ℕ
-  part j = partOf j (claim g schedule)
+  part j = shownBy (claim g schedule) (partTo (arrival (g .jobs) j) schedule (standingAt (replayed g schedule) j))

@@ -25,3 +25,6 @@ pub use runs::run;
 pub use tables::Criticality;
 pub use tables::Mode;
 pub use tables::Priority;
+pub use verdicts::response;
+pub use verdicts::verdict;
+pub use verdicts::witness;

@@ -5,10 +5,11 @@ ghost use mathlib.Core.List.{List};
 ghost use Prim.Native.Nat.{ℕ, _≤_, _<_};
 ghost use lib.ListN.{length};
 ghost use Rattle.zsrm.specs.declared.tables.Mode.{Mode};
+ghost use Rattle.zsrm.specs.declared.answers.Claim.{Claim};
 ghost use Rattle.zsrm.specs.Tables.{arrival};
 ghost use Rattle.zsrm.specs.Fields.{lists};
 ghost use Rattle.zsrm.specs.Record.{standingAt};
-ghost use Rattle.zsrm.specs.Verdict.{judged, verdict, missed, answered, partTo, FitsIn};
+ghost use Rattle.zsrm.specs.Verdict.{judged, verdict, missed, answered, partTo, FitsIn, shownBy};
 ghost use Rattle.zsrm.specs.Answers.{given, checkVerdict, checkWitness, verdictAnswer, witnessAnswer, responseAnswer};
 use crate::answers::Claim;
 use crate::answers::Outcome;
@@ -154,3 +155,47 @@ fn finished_part<'a>(standing: Standing, jobs: &[u32], j: u32, schedule: &'a [u1
     &schedule[from..to]
 }
 
+// The part of a job of the list in a schedule that was replayed; empty where the claim is not legal.
+fn replayed_part<'a>(
+    claim: Claim,
+    rec: Record,
+    jobs: &[u32],
+    j: u32,
+    schedule: &'a [u16],
+) -> &'a [u16]
+    requires { ⌜ (j < 64) × (claim ≡ Claim.Legal → FitsIn (arrival (now jobs) j) (now schedule) (standingAt rec j)) ⌝ }
+    ensures { λ r. ⌜ now r ≡ shownBy claim (partTo (arrival (now (jobs .entry)) j) (now (schedule .entry)) (standingAt rec j)) ⌝ }
+{
+    let i = j as usize;
+    let place = rec.places[i];
+    let standing = place.standing;
+    match claim {
+        Claim::Legal => finished_part(standing, jobs, j, schedule),
+        Claim::NotLegal(_) => &schedule[0..0],
+        Claim::Refused(_, _) => &schedule[0..0],
+    }
+}
+
+// The caller's own entries from a job's arrival up to its finishing instant, in a schedule that is legal; for anything else, refused
+// input too, the empty part.
+pub fn response<'a>(
+    mode: Mode,
+    tasks: &[u32],
+    jobs: &[u32],
+    horizon: u32,
+    schedule: &'a [u16],
+    job: u32,
+) -> &'a [u16]
+    ensures { λ r. ⌜ now r ≡ responseAnswer (given mode (now (tasks .entry)) (now (jobs .entry))) horizon (now (schedule .entry)) job ⌝ }
+{
+    let checked = check_witness(tasks, jobs, horizon, schedule.len(), job);
+    match checked {
+        Outcome::Done => {
+            let replayed = replay(mode, tasks, jobs, schedule);
+            let record = replayed.record;
+            let claim = replayed.claim;
+            replayed_part(claim, record, jobs, job, schedule)
+        }
+        Outcome::Refused(_, _) => &schedule[0..0],
+    }
+}

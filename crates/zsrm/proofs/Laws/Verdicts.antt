@@ -1,8 +1,8 @@
 -- Verdicts and witnesses as the code comes to them: what the checks say of the job named, and what a replay says of a witness.
-use Prim.Native.Nat.{_<_, ℕ, _≤_}
-use mathlib.Core.Bool.{Bool}
+use Prim.Native.Nat.{_+_, _<_, ℕ, _≤_}
+use mathlib.Core.Bool.{Bool, true}
 use mathlib.Core.List.{List}
-use mathlib.Core.Path.{ap, refl, _∙_, _≡_}
+use mathlib.Core.Path.{ap, refl, subst, _∙_, _≡_}
 use native.Mathlib.Omega.{arith}
 use lib.Dec.{ltb}
 use lib.ListN.{length}
@@ -13,18 +13,23 @@ use Rattle.zsrm.specs.declared.answers.Verdict.{Verdict}
 use Rattle.zsrm.specs.declared.answers.Witness.{Witness}
 use Rattle.zsrm.specs.declared.claims.Replayed.{Replayed}
 use Rattle.zsrm.specs.declared.record.Record.{Record}
+use Rattle.zsrm.specs.declared.record.Standing.{Standing}
+use Rattle.zsrm.specs.declared.record.Standing.the-variants.{Ended, Finished, NotArrived, Unfinished}
 use Rattle.zsrm.specs.declared.tables.Mode.{Mode}
 use Rattle.zsrm.specs.Answers.{checkGiven, checkSchedule, checkVerdict, checkWitness, given}
 use Rattle.zsrm.specs.Claims.{ReplayedAs}
 use Rattle.zsrm.specs.Fields.{lists}
 use Rattle.zsrm.specs.Legal.{claim}
-use Rattle.zsrm.specs.Record.{consistent}
+use Rattle.zsrm.specs.Record.{consistent, doneAt, fresh, standingAt}
 use Rattle.zsrm.specs.Refusals.{check11, check13, checkLists}
-use Rattle.zsrm.specs.Run.{replayed}
-use Rattle.zsrm.specs.Tables.{Given, deadlineInstant, jobCount}
-use Rattle.zsrm.specs.Verdict.{answered, missed, verdict, witness}
+use Rattle.zsrm.specs.Run.{recordBefore, replayed}
+use Rattle.zsrm.specs.Tables.{Given, arrival, deadlineInstant, idle, jobCount}
+use Rattle.zsrm.specs.Verdict.{FitsIn, answered, missed, part, partTo, shownBy, verdict, witness}
 use Rattle.zsrm.proofs.Laws.Answers.{Accepted, accepted, accepted-lists}
+use Rattle.zsrm.proofs.Laws.Consistent.{Sound, advanced-consistent, fresh-consistent, sound-at}
+use Rattle.zsrm.proofs.Laws.Places.{tick-fresh}
 use Rattle.zsrm.proofs.Laws.Refusals.{before-first, before-second, refuse-fine}
+use Rattle.zsrm.proofs.Laws.Replay.{kept-at, legal-dispatch, replayed-is, tick-replay}
 use Rattle.zsrm.proofs.Laws.Step.{lists-few}
 use Rattle.zsrm.specs.declared.answers.Claim.the-variants as claims
 
@@ -86,3 +91,39 @@ witness-answer m tasks jobs schedule j x v b w p qv qb qw =
     go claims.Legal e =
         ap (answered claims.Legal)
         (qb ∙ ap missed (qv ∙ verdict-any m tasks jobs (x .«record») j ∙ ap (λ (r : Record). verdict g r j) (p .ends e)))
+
+-- the record at the end of a legal schedule is consistent, and its tick is the schedule's length
+pub replayed-consistent : (g : Given) (schedule : List ℕ) → length schedule ≤ 16384 → claim g schedule ≡ claims.Legal → consistent g (replayed g schedule) ≡ true
+unfolding claim recordBefore
+replayed-consistent g schedule limit legal =
+    subst (λ (r : Record). consistent g r ≡ true) (replayed-is g schedule (length schedule) refl)
+    (kept-at g 16384 (λ r. consistent g r ≡ true) (λ r p e b l s. advanced-consistent g r e b (legal-dispatch g r p e l) s) (fresh (g .jobs)) idle schedule
+    (rw tick-fresh (omega arith)) legal (fresh-consistent g) (length schedule))
+
+-- so a finishing instant lies within it
+pub part-fits : (g : Given) (schedule : List ℕ) (j : ℕ) → length schedule ≤ 16384 → j < 64 → claim g schedule ≡ claims.Legal
+    → FitsIn (arrival (g .jobs) j) schedule (standingAt (replayed g schedule) j)
+unfolding replayed
+part-fits g schedule j limit l legal =
+    go (standingAt (replayed g schedule) j) (sound-at g (replayed g schedule) (replayed-consistent g schedule limit legal) j l)
+    (tick-replay g (fresh (g .jobs)) schedule ∙ ap (λ (t : ℕ). t + length schedule) (tick-fresh (g .jobs)))
+  where
+    go : (s : Standing) → Sound (g .mode) (g .jobs) (replayed g schedule .tick) j (doneAt (replayed g schedule) j) s → replayed g schedule .tick ≡ 0 + length schedule
+        → FitsIn (arrival (g .jobs) j) schedule s
+    go NotArrived w e = tt
+    go Unfinished w e = tt
+    go (Finished f) w e = (omega (arith, w .after), omega (arith, w .by))
+    go (Ended x) w e = tt
+
+-- a replay answers for the part
+pub part-answer : (g : Given) (schedule : List ℕ) (j : ℕ) (x : Replayed) → ReplayedAs g schedule x
+    → shownBy (x .claim) (partTo (arrival (g .jobs) j) schedule (standingAt (x .«record») j)) ≡ part g schedule j
+unfolding part
+part-answer g schedule j x p =
+    ap (λ (k : Claim). shownBy k (partTo (arrival (g .jobs) j) schedule (standingAt (x .«record») j))) (p .says) ∙ go (claim g schedule) refl
+  where
+    go : (k : Claim) → claim g schedule ≡ k
+        → shownBy k (partTo (arrival (g .jobs) j) schedule (standingAt (x .«record») j)) ≡ shownBy k (partTo (arrival (g .jobs) j) schedule (standingAt (replayed g schedule) j))
+    go (claims.Refused n q) e = refl
+    go (claims.NotLegal t) e = refl
+    go claims.Legal e = ap (λ (r : Record). partTo (arrival (g .jobs) j) schedule (standingAt r j)) (p .ends e)
