@@ -16,5 +16,6 @@ pub mod Step
 pub mod Going
 pub mod Claims
 pub mod Verdicts
+pub mod Bytes
 pub mod Said
 pub mod Answers

@@ -1,6 +1,8 @@
 // A ZSRM schedule on one processor in whole ticks: stepped, run, checked, judged. Every rule is document 01's and stands, as a
 // definition, in specs/; the theorems about them stand in proofs/, Promise first.
 mod answers;
+mod bytes;
+mod c;
 mod claims;
 mod next;
 mod record;

@@ -1,0 +1,123 @@
+-- Lists as bytes: one number more, and what a list of bytes says of the numbers in it.
+use Prim.Native.Nat.{_%_, _*_, _+_, _/_, _<_, suc, ℕ, _≤_}
+use mathlib.Core.Bool.{Bool, false, not, or-true, true, _||_}
+use mathlib.Core.List.{_++_, List, [], append-assoc, _∷_}
+use mathlib.Core.Logic.{inl, inr, _⊎_}
+use mathlib.Core.Path.{ap, ap₂, refl, subst, sym, _∙_, _≡_}
+use native.Mathlib.Numerals.{add-one}
+use native.Mathlib.Omega.{arith}
+use lib.Dec.{eqb, ltb}
+use lib.ListN.{getD, length, length-set, set, take}
+use lib.Seq.{take-suc-set}
+use borrow.Author.Tests.{eq-eqb, eqb-true, lt-ltb, ltb-false, ltb-true, not-false}
+use Rattle.bits.specs.Below.{listFrom}
+use Rattle.bits.proofs.Below.{getD-list, length-listFrom, list-snoc}
+use Rattle.bits.proofs.Bools.{either, or-left-false, or-right-false}
+use Rattle.bits.proofs.Most.{most}
+use Rattle.zsrm.specs.declared.answers.Outcome.{Outcome}
+use Rattle.zsrm.specs.declared.answers.Outcome.the-variants.{Refused}
+use Rattle.zsrm.specs.Bytes.{bytes2, number2, number4, numbers2, numbers4, uneven}
+use Rattle.zsrm.specs.Refusals.{before, check2, check5, checkJobs, checkTasks, outside, refuse}
+use Rattle.zsrm.specs.Tables.{jobCount, taskCount}
+
+-- one more number decoded behind those that are there
+pub decode-more : (bytes l : List ℕ) (i v : ℕ) → take i l ≡ listFrom 0 i (number4 bytes) → i < length l → v ≡ number4 bytes i
+    → take (i + 1) (set l i v) ≡ listFrom 0 (i + 1) (number4 bytes)
+decode-more bytes l i v p b q =
+    rw add-one (take-suc-set l i v b ∙ ap₂ (λ (x : List ℕ) (c : ℕ). x ++ (c ∷ [])) p q ∙ sym (list-snoc (number4 bytes) i))
+
+pub bytes2-append : (xs ys : List ℕ) → bytes2 (xs ++ ys) ≡ bytes2 xs ++ bytes2 ys
+unfolding bytes2
+bytes2-append [] ys = refl
+bytes2-append (x ∷ xs) ys = ap (λ (l : List ℕ). x % 256 ∷ x / 256 ∷ l) (bytes2-append xs ys)
+
+-- one more entry written behind those that are there
+pub put-more : (l e : List ℕ) (i x : ℕ) → i * 2 + 1 < length l → take (i * 2) l ≡ bytes2 e
+    → take ((i + 1) * 2) (set (set l (i * 2) (x % 256)) (i * 2 + 1) (x / 256)) ≡ bytes2 (e ++ (x ∷ []))
+unfolding bytes2
+put-more l e i x h t =
+    let m : List ℕ = set l (i * 2) (x % 256) in
+    let n₁ : (i + 1) * 2 ≡ suc (i * 2 + 1) = omega arith in
+    let n₂ : i * 2 + 1 ≡ suc (i * 2) = omega arith in
+    ap (λ (k : ℕ). take k (set m (i * 2 + 1) (x / 256))) n₁
+    ∙ take-suc-set m (i * 2 + 1) (x / 256) (omega (arith, length-set l (i * 2) (x % 256)))
+    ∙ ap (λ (k : ℕ). take k m ++ (x / 256 ∷ [])) n₂
+    ∙ ap (λ (q : List ℕ). q ++ (x / 256 ∷ [])) (take-suc-set l (i * 2) (x % 256) (omega arith))
+    ∙ append-assoc (take (i * 2) l) (x % 256 ∷ []) (x / 256 ∷ [])
+    ∙ ap (λ (q : List ℕ). q ++ (x % 256 ∷ x / 256 ∷ [])) t
+    ∙ sym (bytes2-append e (x ∷ []))
+
+pub length-numbers4 : (bytes : List ℕ) → length (numbers4 bytes) ≡ length bytes / 4
+unfolding numbers4
+length-numbers4 bytes = length-listFrom 0 (length bytes / 4) (number4 bytes)
+
+pub length-numbers2 : (bytes : List ℕ) → length (numbers2 bytes) ≡ length bytes / 2
+unfolding numbers2
+length-numbers2 bytes = length-listFrom 0 (length bytes / 2) (number2 bytes)
+
+-- the entry at a tick
+pub entry-at : (bytes : List ℕ) (t : ℕ) → t < length bytes / 2 → getD (numbers2 bytes) t 0 ≡ number2 bytes t
+unfolding numbers2
+entry-at bytes t b = getD-list (length bytes / 2) (number2 bytes) t 0 b
+
+-- a byte count that makes no whole number, or is too long, is refused with the list's own number; any other says nothing yet
+pub fits-whole : (bytes : List ℕ) (most : ℕ) → (not (eqb (length bytes % 4) 0) || ltb most (length bytes)) ≡ false → (length bytes % 4 ≡ 0) × (length bytes ≤ most)
+fits-whole bytes most h =
+    (eqb-true (length bytes % 4) 0 (not-false (eqb (length bytes % 4) 0) (or-left-false _ _ h)), ltb-false most (length bytes) (or-right-false (not (eqb (length bytes % 4) 0)) _ h))
+
+whole : (bytes : List ℕ) (number : ℕ) (later : Outcome) → length bytes % 4 ≡ 0 → before (uneven bytes 4 number) later ≡ later
+unfolding uneven refuse before
+whole bytes number later e = rw (eq-eqb (length bytes % 4) 0 e)
+
+pub whole-tasks : (tasks : List ℕ) → length tasks % 4 ≡ 0 → before (uneven tasks 4 2) (checkTasks (numbers4 tasks)) ≡ checkTasks (numbers4 tasks)
+whole-tasks tasks e = whole tasks 2 (checkTasks (numbers4 tasks)) e
+
+pub whole-jobs : (list jobs : List ℕ) → length jobs % 4 ≡ 0 → before (uneven jobs 4 5) (checkJobs list (numbers4 jobs)) ≡ checkJobs list (numbers4 jobs)
+whole-jobs list jobs e = whole jobs 5 (checkJobs list (numbers4 jobs)) e
+
+-- refused by its count, or else by the check of the list's length
+refused-by : (bytes : List ℕ) (most number : ℕ) (check : Outcome) → (not (eqb (length bytes % 4) 0) || ltb most (length bytes)) ≡ true
+    → (length bytes % 4 ≡ 0 → most < length bytes → check ≡ Refused number 0) → before (uneven bytes 4 number) check ≡ Refused number 0
+unfolding uneven refuse before
+refused-by bytes most number check h long = go (either (eqb (length bytes % 4) 0))
+  where
+    go : (eqb (length bytes % 4) 0 ≡ true) ⊎ (eqb (length bytes % 4) 0 ≡ false) → before (refuse (not (eqb (length bytes % 4) 0)) number 0) check ≡ Refused number 0
+    go (inl e) =
+        rw e (long (eqb-true (length bytes % 4) 0 e) (ltb-true most (length bytes) (subst (λ (b : Bool). (not b || ltb most (length bytes)) ≡ true) e h)))
+    go (inr e) = rw e
+
+stops : (first later : Outcome) (number : ℕ) → first ≡ Refused number 0 → before first later ≡ Refused number 0
+unfolding before
+stops first later number e = rw e
+
+pub tasks-refused : (tasks : List ℕ) → (not (eqb (length tasks % 4) 0) || ltb 448 (length tasks)) ≡ true → before (uneven tasks 4 2) (checkTasks (numbers4 tasks)) ≡ Refused 2 0
+unfolding checkTasks check2 outside taskCount
+tasks-refused tasks h = refused-by tasks 448 2 (checkTasks (numbers4 tasks)) h (λ e m. stops (check2 (numbers4 tasks)) _ 2 (two e m))
+  where
+    two : length tasks % 4 ≡ 0 → 448 < length tasks → check2 (numbers4 tasks) ≡ Refused 2 0
+    two e m =
+        let n = length-numbers4 tasks in
+        refused (length (numbers4 tasks)) (omega (arith, n))
+      where
+        refused : (n : ℕ) → 112 < n → refuse (not (eqb (n % 7) 0) || (ltb (n / 7) 1 || ltb 16 (n / 7))) 2 0 ≡ Refused 2 0
+        refused n m = go (either (eqb (n % 7) 0))
+          where
+            go : (eqb (n % 7) 0 ≡ true) ⊎ (eqb (n % 7) 0 ≡ false) → refuse (not (eqb (n % 7) 0) || (ltb (n / 7) 1 || ltb 16 (n / 7))) 2 0 ≡ Refused 2 0
+            go (inl e) = let z = eqb-true (n % 7) 0 e in rw (e, lt-ltb 16 (n / 7) (omega arith), or-true (ltb (n / 7) 1)) (unfold refuse in refl)
+            go (inr e) = rw e (unfold refuse in refl)
+
+pub jobs-refused : (list jobs : List ℕ) → (not (eqb (length jobs % 4) 0) || ltb 768 (length jobs)) ≡ true → before (uneven jobs 4 5) (checkJobs list (numbers4 jobs)) ≡ Refused 5 0
+unfolding checkJobs check5 jobCount
+jobs-refused list jobs h = refused-by jobs 768 5 (checkJobs list (numbers4 jobs)) h (λ e m. stops (check5 (numbers4 jobs)) _ 5 (five e m))
+  where
+    five : length jobs % 4 ≡ 0 → 768 < length jobs → check5 (numbers4 jobs) ≡ Refused 5 0
+    five e m =
+        let n = length-numbers4 jobs in
+        refused (length (numbers4 jobs)) (omega (arith, n))
+      where
+        refused : (n : ℕ) → 192 < n → refuse (not (eqb (n % 3) 0) || ltb 64 (n / 3)) 5 0 ≡ Refused 5 0
+        refused n m = go (either (eqb (n % 3) 0))
+          where
+            go : (eqb (n % 3) 0 ≡ true) ⊎ (eqb (n % 3) 0 ≡ false) → refuse (not (eqb (n % 3) 0) || ltb 64 (n / 3)) 5 0 ≡ Refused 5 0
+            go (inl e) = let z = eqb-true (n % 3) 0 e in rw (e, lt-ltb 64 (n / 3) (omega arith)) (unfold refuse in refl)
+            go (inr e) = rw e (unfold refuse in refl)
