@@ -4,7 +4,7 @@ ghost use mathlib.Core.List.{List};
 ghost use Prim.Native.Nat.{ℕ, _+_, _*_, _/_, _%_, _≤_};
 ghost use lib.ListN.{length};
 ghost use Rattle.zsrm.specs.declared.answers.Outcome.{Outcome};
-ghost use Rattle.zsrm.specs.Refusals.{before, check1, checkTasks, checkJobs, checkLists};
+ghost use Rattle.zsrm.specs.Refusals.{before, check9, check10, checkTasks, checkJobs, checkLists};
 ghost use Rattle.zsrm.specs.Run.{runEntries};
 ghost use Rattle.zsrm.specs.Legal.{claim};
 ghost use Rattle.zsrm.specs.Answers.{given};
@@ -55,4 +55,70 @@ fn check_job_bytes(tasks: &[u8], jobs: &[u8]) -> Outcome
     let n = tasks.len() / 4;
     let m = len / 4;
     check_jobs(&table[..n], &list[..m])
+}
+
+// 9, then 10 for an odd byte count or another number of entries. Of the schedule its length decides.
+fn check_schedule_bytes(horizon: u32, len: usize) -> Outcome
+    ensures { λ r. ⌜ ((s : List ℕ) → length s ≡ len → r ≡ before (check9 horizon) (before (uneven s 2 10) (check10 (numbers2 s) horizon))) ⌝ }
+{
+    let odd = refuse(!(len % 2 == 0), 10, 0);
+    let other = refuse(!(len / 2 == (horizon as usize)), 10, 0);
+    before(check9(horizon), before(odd, other))
+}
+
+// All checks of the calls from C, in their order.
+fn check_bytes(mode: u32, tasks: &[u8], jobs: &[u8], horizon: u32, len: usize) -> Outcome
+    ensures { λ r. ⌜ ((s : List ℕ) → length s ≡ len → r ≡ checkBytes mode (now (tasks .entry)) (now (jobs .entry)) horizon s) ⌝ }
+{
+    let head = before(refuse(1 < mode, 1, 0), check_task_bytes(tasks));
+    match head {
+        Outcome::Done => before(
+            check_job_bytes(tasks, jobs),
+            check_schedule_bytes(horizon, len),
+        ),
+        Outcome::Refused(number, place) => Outcome::Refused(number, place),
+    }
+}
+
+// Our run from the fresh record, its entries written as bytes.
+fn run_bytes(mode: Mode, tasks: &[u32], jobs: &[u32], schedule: &mut [u8])
+    requires { ⌜ checkLists (now tasks) (now jobs) ≡ Outcome.Done ⌝ }
+    requires { ⌜ (length (now schedule) ≤ 32768) × (length (now schedule) % 2 ≡ 0) ⌝ }
+    ensures { λ _. ⌜ now (schedule .exit) ≡ bytes2 (runEntries (given mode (now (tasks .entry)) (now (jobs .entry))) (length (now (schedule .entry)) / 2)) ⌝ }
+{
+    let ticks = schedule.len() / 2;
+    let mut rec = fresh_record(jobs);
+    let mut t: usize = 0;
+    while t < ticks {
+        let stepped = rec.advance(mode, tasks, jobs);
+        put2(schedule, t, stepped.entry);
+        let next = stepped.record;
+        rec = next;
+        t += 1;
+    }
+}
+
+// What a claim of bytes comes to, as one number.
+fn claim_bytes(mode: Mode, tasks: &[u32], jobs: &[u32], schedule: &[u8]) -> u32
+    requires { ⌜ checkLists (now tasks) (now jobs) ≡ Outcome.Done ⌝ }
+    requires { ⌜ length (now schedule) ≤ 32768 ⌝ }
+    ensures { λ r. ⌜ r ≡ packedClaim (claim (given mode (now (tasks .entry)) (now (jobs .entry))) (numbers2 (now (schedule .entry)))) ⌝ }
+{
+    let ticks = schedule.len() / 2;
+    let mut rec = fresh_record(jobs);
+    let mut last: u16 = 65535;
+    let mut t: usize = 0;
+    while t < ticks {
+        let entry = number2(schedule, t as u32);
+        let tried = try_entry(rec, mode, last, entry, tasks, jobs);
+        let next = tried.record;
+        if tried.legal {
+            rec = next;
+            last = entry;
+            t += 1;
+        } else {
+            return 65536 + (t as u32);
+        }
+    }
+    0
 }

@@ -15,10 +15,14 @@ use Rattle.bits.proofs.Below.{getD-list, length-listFrom, list-snoc}
 use Rattle.bits.proofs.Bools.{either, or-left-false, or-right-false}
 use Rattle.bits.proofs.Most.{most}
 use Rattle.zsrm.specs.declared.answers.Outcome.{Outcome}
-use Rattle.zsrm.specs.declared.answers.Outcome.the-variants.{Refused}
+use Rattle.zsrm.specs.declared.answers.Outcome.the-variants.{Done, Refused}
+use Rattle.zsrm.specs.declared.record.Record.{Record}
 use Rattle.zsrm.specs.Bytes.{bytes2, number2, number4, numbers2, numbers4, uneven}
-use Rattle.zsrm.specs.Refusals.{before, check2, check5, checkJobs, checkTasks, outside, refuse}
-use Rattle.zsrm.specs.Tables.{jobCount, taskCount}
+use Rattle.zsrm.specs.Refusals.{before, check10, check2, check5, check9, checkJobs, checkTasks, outside, refuse}
+use Rattle.zsrm.specs.Run.{entries}
+use Rattle.zsrm.specs.Tables.{Given, jobCount, taskCount}
+use Rattle.zsrm.specs.Tick.{choice}
+use Rattle.zsrm.proofs.Laws.Going.{Going, entries-more}
 
 -- one more number decoded behind those that are there
 pub decode-more : (bytes l : List ℕ) (i v : ℕ) → take i l ≡ listFrom 0 i (number4 bytes) → i < length l → v ≡ number4 bytes i
@@ -121,3 +125,30 @@ jobs-refused list jobs h = refused-by jobs 768 5 (checkJobs list (numbers4 jobs)
             go : (eqb (n % 3) 0 ≡ true) ⊎ (eqb (n % 3) 0 ≡ false) → refuse (not (eqb (n % 3) 0) || ltb 64 (n / 3)) 5 0 ≡ Refused 5 0
             go (inl e) = let z = eqb-true (n % 3) 0 e in rw (e, lt-ltb 64 (n / 3) (omega arith)) (unfold refuse in refl)
             go (inr e) = rw e (unfold refuse in refl)
+
+-- one more entry of a run, as bytes
+pub going-bytes : (g : Given) (start r : Record) (l : List ℕ) (n e : ℕ) → Going g start r n → take (n * 2) l ≡ bytes2 (entries g start n) → n * 2 + 1 < length l → e ≡ choice g r
+    → take ((n + 1) * 2) (set (set l (n * 2) (e % 256)) (n * 2 + 1) (e / 256)) ≡ bytes2 (entries g start (n + 1))
+going-bytes g start r l n e w p b q =
+    put-more l (entries g start n) n e b p ∙ ap (λ (c : ℕ). bytes2 (entries g start n ++ (c ∷ []))) (q ∙ ap (choice g) (w .is)) ∙ ap bytes2 (sym (entries-more g start n))
+
+-- the checks of the schedule's bytes, by their count
+pub schedule-bytes : (s : List ℕ) (len horizon : ℕ) (odd other : Outcome) → length s ≡ len → odd ≡ refuse (not (eqb (len % 2) 0)) 10 0 → other ≡ refuse (not (eqb (len / 2) horizon)) 10 0
+    → before (check9 horizon) (before odd other) ≡ before (check9 horizon) (before (uneven s 2 10) (check10 (numbers2 s) horizon))
+unfolding uneven check10
+schedule-bytes s len horizon odd other e p q =
+    ap₂ (λ (a b : Outcome). before (check9 horizon) (before a b)) (p ∙ ap (λ (k : ℕ). refuse (not (eqb (k % 2) 0)) 10 0) (sym e))
+    (q ∙ ap (λ (k : ℕ). refuse (not (eqb k horizon)) 10 0) (ap (λ (k : ℕ). k / 2) (sym e) ∙ sym (length-numbers2 s)))
+
+-- a table whose checks are done is no longer than 16 tasks
+pub tasks-small : (tasks : List ℕ) → before (uneven tasks 4 2) (checkTasks (numbers4 tasks)) ≡ Done → length tasks ≤ 448
+tasks-small tasks ok = go (either (not (eqb (length tasks % 4) 0) || ltb 448 (length tasks)))
+  where
+    go : ((not (eqb (length tasks % 4) 0) || ltb 448 (length tasks)) ≡ true) ⊎ ((not (eqb (length tasks % 4) 0) || ltb 448 (length tasks)) ≡ false) → length tasks ≤ 448
+    go (inl h) = let r = tasks-refused tasks h in let z : _≡_ {A = ℕ} 0 1 = cc in absurd (omega arith)
+    go (inr h) = fits-whole tasks 448 h .1
+
+pub before-assoc : (a b c : Outcome) → before (before a b) c ≡ before a (before b c)
+unfolding before
+before-assoc Done b c = refl
+before-assoc (Refused n p) b c = refl
