@@ -17,5 +17,6 @@ pub mod Going
 pub mod Claims
 pub mod Verdicts
 pub mod Bytes
+pub mod Small
 pub mod Said
 pub mod Answers

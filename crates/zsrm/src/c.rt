@@ -122,3 +122,53 @@ fn claim_bytes(mode: Mode, tasks: &[u32], jobs: &[u32], schedule: &[u8]) -> u32
     }
     0
 }
+
+// Our run, from C: 0 for done, or a refusal's number plus 256 times its place, the schedule's bytes then being as they were.
+#[no_mangle]
+pub extern "C" fn zsrm_run(
+    mode: u32,
+    tasks: &[u8],
+    jobs: &[u8],
+    horizon: u32,
+    schedule: &mut [u8],
+) -> u32
+    ensures answers { λ r. ⌜ r ≡ runResult mode (now (tasks .entry)) (now (jobs .entry)) horizon (now (schedule .entry)) ⌝ }
+    ensures writes { λ r. ⌜ now (schedule .exit) ≡ runBytes mode (now (tasks .entry)) (now (jobs .entry)) horizon (now (schedule .entry)) ⌝ }
+{
+    let checked = check_bytes(mode, tasks, jobs, horizon, schedule.len());
+    match checked {
+        Outcome::Done => {
+            let table = decode(tasks);
+            let list = decode(jobs);
+            let n = tasks.len() / 4;
+            let m = jobs.len() / 4;
+            run_bytes(mode_of(mode), &table[..n], &list[..m], schedule);
+            0
+        }
+        Outcome::Refused(number, place) => number + 256 * place,
+    }
+}
+
+// A claimed schedule, from C: 0 for legal, 65,536 plus t for not legal at t, a refusal as above.
+#[no_mangle]
+pub extern "C" fn zsrm_claim(
+    mode: u32,
+    tasks: &[u8],
+    jobs: &[u8],
+    horizon: u32,
+    schedule: &[u8],
+) -> u32
+    ensures { λ r. ⌜ r ≡ claimResult mode (now (tasks .entry)) (now (jobs .entry)) horizon (now (schedule .entry)) ⌝ }
+{
+    let checked = check_bytes(mode, tasks, jobs, horizon, schedule.len());
+    match checked {
+        Outcome::Done => {
+            let table = decode(tasks);
+            let list = decode(jobs);
+            let n = tasks.len() / 4;
+            let m = jobs.len() / 4;
+            claim_bytes(mode_of(mode), &table[..n], &list[..m], schedule)
+        }
+        Outcome::Refused(number, place) => number + 256 * place,
+    }
+}

@@ -19,6 +19,8 @@ pub use answers::Ran;
 pub use answers::Stepped;
 pub use answers::Verdict;
 pub use answers::Witness;
+pub use c::zsrm_claim;
+pub use c::zsrm_run;
 pub use claims::claim;
 pub use record::Place;
 pub use record::Record;

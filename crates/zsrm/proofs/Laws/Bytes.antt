@@ -148,6 +148,13 @@ tasks-small tasks ok = go (either (not (eqb (length tasks % 4) 0) || ltb 448 (le
     go (inl h) = let r = tasks-refused tasks h in let z : _≡_ {A = ℕ} 0 1 = cc in absurd (omega arith)
     go (inr h) = fits-whole tasks 448 h .1
 
+pub jobs-small : (list jobs : List ℕ) → before (uneven jobs 4 5) (checkJobs list (numbers4 jobs)) ≡ Done → length jobs ≤ 768
+jobs-small list jobs ok = go (either (not (eqb (length jobs % 4) 0) || ltb 768 (length jobs)))
+  where
+    go : ((not (eqb (length jobs % 4) 0) || ltb 768 (length jobs)) ≡ true) ⊎ ((not (eqb (length jobs % 4) 0) || ltb 768 (length jobs)) ≡ false) → length jobs ≤ 768
+    go (inl h) = let r = jobs-refused list jobs h in let z : _≡_ {A = ℕ} 0 1 = cc in absurd (omega arith)
+    go (inr h) = fits-whole jobs 768 h .1
+
 pub before-assoc : (a b c : Outcome) → before (before a b) c ≡ before a (before b c)
 unfolding before
 before-assoc Done b c = refl

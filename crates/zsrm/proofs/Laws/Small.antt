@@ -1,0 +1,140 @@
+-- Every refusal's number and place are small, so that they pack into one number.
+use Prim.Native.Nat.{_%_, _*_, _+_, _/_, _<_, suc, zero, ℕ, _≤_}
+use mathlib.Core.Bool.{Bool, false, not, true}
+use mathlib.Core.List.{List}
+use mathlib.Core.Path.{ap, ap₂, refl, subst, sym, _∙_, _≡_}
+use native.Mathlib.Omega.{arith}
+use lib.Dec.{eqb, ltb}
+use lib.ListN.{length}
+use borrow.Author.Tests.{eqb-true, ltb-false, not-false}
+use Rattle.bits.proofs.Bools.{or-right-false}
+use Rattle.zsrm.specs.declared.answers.Outcome.{Outcome}
+use Rattle.zsrm.specs.declared.answers.Outcome.the-variants.{Done, Refused}
+use Rattle.zsrm.specs.declared.tables.Mode.{Mode}
+use Rattle.zsrm.specs.Answers.{given}
+use Rattle.zsrm.specs.Bytes.{bytes2, checkBytes, claimResult, givenBytes, modeOf, numbers2, numbers4, packedClaim, packedOutcome, runBytes, runResult, uneven}
+use Rattle.zsrm.specs.Legal.{claim}
+use Rattle.zsrm.specs.Refusals.{ascending, before, check1, check10, check2, check3, check4, check5, check6, check7, check8, check9, checkJobs, checkLists, checkTasks, outside, refuse}
+use Rattle.zsrm.specs.Run.{runEntries}
+use Rattle.zsrm.specs.Tables.{jobCount, taskCount}
+use Rattle.zsrm.proofs.Laws.Accepted.{job, task}
+use Rattle.zsrm.proofs.Laws.Answers.{unless-done, unless-refused}
+use Rattle.zsrm.proofs.Laws.Bytes.{jobs-small, length-numbers2, tasks-small}
+use Rattle.zsrm.proofs.Laws.Refusals.{before-first, before-second, refuse-fine}
+use Rattle.zsrm.specs.declared.answers.Claim.the-variants as claims
+
+abbrev pub Small : Outcome → Type 0
+Small Done = Unit {0}
+Small (Refused number place) = (number ≤ 13) × (place ≤ 64)
+
+small-refuse : (b : Bool) (number place : ℕ) → number ≤ 13 → place ≤ 64 → Small (refuse b number place)
+unfolding refuse
+small-refuse true n p h k = (h, k)
+small-refuse false n p h k = tt
+
+-- a later check matters only where the earlier one is done
+small-before : (a b : Outcome) → Small a → (a ≡ Done → Small b) → Small (before a b)
+unfolding before
+small-before Done b h k = k refl
+small-before (Refused n p) b h k = h
+
+small-ascending : (f : ℕ → Outcome) (n : ℕ) → ((k : ℕ) → k < n → Small (f k)) → Small (ascending n f)
+unfolding ascending
+small-ascending f zero h = tt
+small-ascending f (suc n) h = small-before (ascending n f) (f n) (small-ascending f n (λ k l. h k (omega arith))) (λ _. h n (omega arith))
+
+small-tasks : (tasks : List ℕ) → Small (checkTasks tasks)
+unfolding checkTasks check2 check3 check4
+small-tasks tasks =
+    small-before (check2 tasks) _ (small-refuse _ 2 0 (omega arith) (omega arith))
+    (λ ok. small-ascending _ (taskCount tasks) (λ k l. let few = few-tasks tasks ok in
+    small-before (check3 tasks k) (check4 tasks k) (small-refuse _ 3 k (omega arith) (omega arith)) (λ _. small-refuse _ 4 k (omega arith) (omega arith))))
+  where
+    few-tasks : (tasks : List ℕ) → check2 tasks ≡ Done → taskCount tasks ≤ 16
+    few-tasks tasks ok = unfold outside in ltb-false 16 (taskCount tasks) (or-right-false (ltb (taskCount tasks) 1) _ (or-right-false (not (eqb (length tasks % 7) 0)) _ (refuse-fine _ _ _ ok)))
+
+small-jobs : (tasks jobs : List ℕ) → Small (checkJobs tasks jobs)
+unfolding checkJobs check5 check6 check7 check8
+small-jobs tasks jobs =
+    small-before (check5 jobs) _ (small-refuse _ 5 0 (omega arith) (omega arith))
+    (λ ok. small-ascending _ (jobCount jobs) (λ j l. let few = ltb-false 64 (jobCount jobs) (or-right-false (not (eqb (length jobs % 3) 0)) _ (refuse-fine _ _ _ ok)) in
+    small-before (check6 tasks jobs j) _ (small-refuse _ 6 j (omega arith) (omega arith))
+    (λ _. small-before (check7 tasks jobs j) _ (small-refuse _ 7 j (omega arith) (omega arith)) (λ _. small-refuse _ 8 j (omega arith) (omega arith)))))
+
+pub small-bytes : (mode : ℕ) (tasks jobs : List ℕ) (horizon : ℕ) (schedule : List ℕ) → Small (checkBytes mode tasks jobs horizon schedule)
+unfolding checkBytes check1 uneven check9 check10
+small-bytes mode tasks jobs horizon schedule =
+    small-before (check1 mode) _ (small-refuse _ 1 0 (omega arith) (omega arith))
+    (λ _. small-before _ _ (small-before (uneven tasks 4 2) _ (small-refuse _ 2 0 (omega arith) (omega arith)) (λ _. small-tasks (numbers4 tasks)))
+    (λ _. small-before _ _ (small-before (uneven jobs 4 5) _ (small-refuse _ 5 0 (omega arith) (omega arith)) (λ _. small-jobs (numbers4 tasks) (numbers4 jobs)))
+    (λ _. small-before (check9 horizon) _ (small-refuse _ 9 0 (omega arith) (omega arith))
+    (λ _. small-before (uneven schedule 2 10) _ (small-refuse _ 10 0 (omega arith) (omega arith)) (λ _. small-refuse _ 10 0 (omega arith) (omega arith))))))
+
+-- what a call from C that is not refused says of its lists
+pub record Called (mode : ℕ) (tasks jobs : List ℕ) (horizon : ℕ) (schedule : List ℕ) : Type 0 where
+  pub lists : checkLists (numbers4 tasks) (numbers4 jobs) ≡ Done
+  pub tasks-most : length tasks ≤ 448
+  pub jobs-most : length jobs ≤ 768
+  pub even : length schedule % 2 ≡ 0
+  pub whole : length schedule / 2 ≡ horizon
+  pub bounded : horizon ≤ 16384
+
+pub called : (mode : ℕ) (tasks jobs : List ℕ) (horizon : ℕ) (schedule : List ℕ) → checkBytes mode tasks jobs horizon schedule ≡ Done → Called mode tasks jobs horizon schedule
+unfolding checkBytes checkLists uneven check9 check10
+called mode tasks jobs horizon schedule ok =
+    let rest = before-second (check1 mode) _ ok in
+    let task = before-first (before (uneven tasks 4 2) (checkTasks (numbers4 tasks))) _ rest in
+    let rest2 = before-second (before (uneven tasks 4 2) (checkTasks (numbers4 tasks))) _ rest in
+    let job = before-first (before (uneven jobs 4 5) (checkJobs (numbers4 tasks) (numbers4 jobs))) _ rest2 in
+    let rest3 = before-second (before (uneven jobs 4 5) (checkJobs (numbers4 tasks) (numbers4 jobs))) _ rest2 in
+    let rest4 = before-second (check9 horizon) _ rest3 in
+    record {
+      lists = ap₂ before (before-second (uneven tasks 4 2) _ task) (before-second (uneven jobs 4 5) _ job) ∙ unfold before in refl;
+      tasks-most = tasks-small tasks task;
+      jobs-most = jobs-small (numbers4 tasks) jobs job;
+      even = eqb-true (length schedule % 2) 0 (not-false _ (refuse-fine _ _ _ (before-first (uneven schedule 2 10) _ rest4)));
+      whole = sym (length-numbers2 schedule) ∙ eqb-true (length (numbers2 schedule)) horizon (not-false _ (refuse-fine _ _ _ (before-second (uneven schedule 2 10) _ rest4)));
+      bounded = ltb-false 16384 horizon (refuse-fine _ _ _ (before-first (check9 horizon) _ rest3));
+    }
+
+pub small-refused : (o : Outcome) (number place : ℕ) → o ≡ Refused number place → Small o → (number ≤ 13) × (place ≤ 64)
+small-refused o n p e s = subst Small e s
+
+-- the results of the calls, where nothing is refused and where something is
+module _ (mode : ℕ) (tasks jobs : List ℕ) (horizon : ℕ) (schedule : List ℕ) where
+  pub c-done : checkBytes mode tasks jobs horizon schedule ≡ Done → 0 ≡ runResult mode tasks jobs horizon schedule
+  unfolding runResult packedOutcome
+  c-done ok = rw ok
+
+  pub c-runs : checkBytes mode tasks jobs horizon schedule ≡ Done → (m : Mode) (t j out : List ℕ) → m ≡ modeOf mode → t ≡ numbers4 tasks → j ≡ numbers4 jobs
+      → out ≡ bytes2 (runEntries (given m t j) (length schedule / 2)) → out ≡ runBytes mode tasks jobs horizon schedule
+  unfolding runBytes givenBytes
+  c-runs ok m t j out pm pt pj q =
+      q ∙ ap (λ (x : Mode). bytes2 (runEntries (given x t j) (length schedule / 2))) pm
+      ∙ ap₂ (λ (x y : List ℕ). bytes2 (runEntries (given (modeOf mode) x y) (length schedule / 2))) pt pj
+      ∙ ap (λ (n : ℕ). bytes2 (runEntries (givenBytes mode tasks jobs) n)) (called mode tasks jobs horizon schedule ok .whole)
+      ∙ sym (unless-done (λ number place. schedule) (bytes2 (runEntries (givenBytes mode tasks jobs) horizon)) (checkBytes mode tasks jobs horizon schedule) ok)
+
+  pub c-claims : checkBytes mode tasks jobs horizon schedule ≡ Done → (m : Mode) (t j : List ℕ) (r : ℕ) → m ≡ modeOf mode → t ≡ numbers4 tasks → j ≡ numbers4 jobs
+      → r ≡ packedClaim (claim (given m t j) (numbers2 schedule)) → r ≡ claimResult mode tasks jobs horizon schedule
+  unfolding claimResult givenBytes
+  c-claims ok m t j r pm pt pj q =
+      q ∙ ap (λ (x : Mode). packedClaim (claim (given x t j) (numbers2 schedule))) pm
+      ∙ ap₂ (λ (x y : List ℕ). packedClaim (claim (given (modeOf mode) x y) (numbers2 schedule))) pt pj
+      ∙ sym (ap packedClaim (unless-done claims.Refused (claim (givenBytes mode tasks jobs) (numbers2 schedule)) (checkBytes mode tasks jobs horizon schedule) ok))
+
+  module _ (number place : ℕ) (e : checkBytes mode tasks jobs horizon schedule ≡ Refused number place) where
+    pub c-fits : (number ≤ 13) × (place ≤ 64)
+    c-fits = small-refused _ number place e (small-bytes mode tasks jobs horizon schedule)
+
+    pub c-refused : number + 256 * place ≡ runResult mode tasks jobs horizon schedule
+    unfolding runResult packedOutcome
+    c-refused = rw e
+
+    pub c-keeps : schedule ≡ runBytes mode tasks jobs horizon schedule
+    unfolding runBytes
+    c-keeps = sym (unless-refused (λ number place. schedule) (bytes2 (runEntries (givenBytes mode tasks jobs) horizon)) (checkBytes mode tasks jobs horizon schedule) number place e)
+
+    pub c-claim-refused : number + 256 * place ≡ claimResult mode tasks jobs horizon schedule
+    unfolding claimResult packedClaim
+    c-claim-refused = sym (ap packedClaim (unless-refused claims.Refused (claim (givenBytes mode tasks jobs) (numbers2 schedule)) (checkBytes mode tasks jobs horizon schedule) number place e))
