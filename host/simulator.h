@@ -1,0 +1,26 @@
+/* The rules of document 01 once more, in plain C, to compare the library with. Nothing is shared
+   with the library, not even its header. */
+#ifndef SIMULATOR_H
+#define SIMULATOR_H
+
+#include <stddef.h>
+#include <stdint.h>
+
+/* The arguments and results of zsrm_run and zsrm_claim. */
+uint32_t sim_run(uint32_t mode, const uint8_t *tasks, size_t tasks_len, const uint8_t *jobs,
+                 size_t jobs_len, uint32_t horizon, uint8_t *schedule, size_t schedule_len);
+uint32_t sim_claim(uint32_t mode, const uint8_t *tasks, size_t tasks_len, const uint8_t *jobs,
+                   size_t jobs_len, uint32_t horizon, const uint8_t *schedule,
+                   size_t schedule_len);
+
+/* The two below are for lists that are not refused. */
+
+/* How many jobs the run ends. */
+uint32_t sim_ended(uint32_t mode, const uint8_t *tasks, const uint8_t *jobs, size_t jobs_len,
+                   uint32_t horizon);
+
+/* Writes a legal schedule: where a change is allowed, draw(n) < n picks among the n candidates. */
+void sim_draw(uint32_t mode, const uint8_t *tasks, const uint8_t *jobs, size_t jobs_len,
+              uint32_t horizon, uint8_t *schedule, uint32_t (*draw)(uint32_t n));
+
+#endif
