@@ -75,7 +75,11 @@ fn past_word(among: u64, tick: u32, tasks: &[u32], jobs: &[u32]) -> u64
 fn outranks(by: u64, c: Criticality, i: u32, tasks: &[u32], jobs: &[u32]) -> bool
     ensures { λ r. ⌜ r ≡ outranks (lists (now (tasks .entry)) (now (jobs .entry))) by (c .0) i ⌝ }
 {
-    bits::has_bit(by, i) & criticality_of(tasks, jobs, i).exceeds(c)
+    if bits::has_bit(by, i) {
+        criticality_of(tasks, jobs, i).exceeds(c)
+    } else {
+        false
+    }
 }
 
 // Whether some job in the set is strictly more critical than c.
@@ -98,7 +102,11 @@ fn lies_below(among: u64, by: u64, j: u32, tasks: &[u32], jobs: &[u32]) -> bool
     requires { ⌜ jobCount (now jobs) ≤ 64 ⌝ }
     ensures { λ r. ⌜ r ≡ liesBelow (lists (now (tasks .entry)) (now (jobs .entry))) among by j ⌝ }
 {
-    bits::has_bit(among, j) & is_outranked(by, criticality_of(tasks, jobs, j), tasks, jobs)
+    if bits::has_bit(among, j) {
+        is_outranked(by, criticality_of(tasks, jobs, j), tasks, jobs)
+    } else {
+        false
+    }
 }
 
 // The jobs of one set that some job of another outranks.

@@ -1,18 +1,16 @@
--- Both tests, as the calls answer them.
+-- A job in the set is compared; another does not outrank.
 use Prim.Native.Nat.{ℕ}
-use mathlib.Core.Path.{ap, ap₂, _∙_}
-use mathlib.Core.Bool.{Bool, _&&_}
+use mathlib.Core.Path.{sym, ap, _∙_}
 use lib.Dec.{ltb}
 use borrow.Author.Needs.{needs}
 use Rattle.zsrm.specs.View.{outranks}
 use Rattle.zsrm.proofs.tick.outranks.Statement.{statement}
 use Rattle.zsrm.proofs.tick.outranks.Tie as tie
 
-returns : tie.Need-returns
-unfolding outranks
-returns c =
-    ap₂ (λ (a b : Bool). a && b) (c .before .before .has-bit .ensures)
-    (c .exceeds .ensures ∙ ap (λ (x : ℕ). ltb (c .before .before .before .before .before .args .c .0) x) (c .before .criticality-of .ensures))
-
 pub outranks-spec : {M : Type 1} → statement M
-outranks-spec = tie.close (tie.spec (λ c κs. search needs) (λ c κs. search needs) (λ c κs. search needs) returns)
+unfolding outranks
+outranks-spec =
+    tie.close
+    (tie.spec (λ c κs. search needs) (λ c κs. search needs) (λ c κs. search needs)
+    (λ c. rw (sym (c .before .before .before .has-bit .ensures) ∙ c .before .before .if1 .taken) (c .exceeds .ensures ∙ ap (λ (x : ℕ). ltb (c .before .before .before .before .before .before .args .c .0) x) (c .before .criticality-of .ensures)))
+    (λ c. rw (sym (c .before .has-bit .ensures) ∙ c .if1 .left)))
