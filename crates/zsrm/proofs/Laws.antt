@@ -20,3 +20,4 @@ pub mod Bytes
 pub mod Small
 pub mod Said
 pub mod Answers
+pub mod Promises

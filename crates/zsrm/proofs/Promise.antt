@@ -1,37 +1,63 @@
 -- The promises, for every input, either mode, and every legal schedule, ours and any other. Read this file first.
 --
 -- `claimAnswer g horizon schedule` is what the claim check answers, `runAnswer` and `runSchedule` what our run does; `..Said` says an
--- answer in document 01's numbers, 0 ∷ [] being "done", "legal" and "met". `recordBefore g schedule t` is the record before tick t of
--- the schedule, and `replayed g schedule` the one at its end. All of them are definitions of specs/.
-use Prim.Native.Nat.{_<_, ℕ, _≤_}
+-- answer in document 01's numbers, 0 ∷ [] being "done", "legal", "met" and "accepted". `recordBefore g schedule t` is the record before
+-- tick t of the schedule, and `replayed g schedule` the one at its end. All of them are definitions of specs/. Laws/Promises has
+-- `stepsFrom`, two lines, and `topmost-example`, a table that meets the premise of (ii).
+use Prim.Native.Nat.{_+_, _-_, _<_, ℕ, _≤_}
 use mathlib.Core.Bool.{true}
 use mathlib.Core.List.{List, [], _∷_}
+use mathlib.Core.Logic.{_↔_, _⊎_}
 use mathlib.Core.Path.{ap, subst, _≡_}
 use native.Mathlib.Omega.{arith}
-use lib.ListN.{getD}
-use Rattle.zsrm.specs.declared.answers.Outcome.the-variants.{Done}
+use lib.ListN.{getD, length}
 use Rattle.zsrm.specs.declared.record.Record.{Record}
 use Rattle.zsrm.specs.declared.record.Standing.the-variants.{Ended, Finished}
-use Rattle.zsrm.specs.Answers.{checkSchedule, claimAnswer, claimSaid, outcomeSaid, ran, runAnswer, runSchedule, verdictAnswer, verdictSaid}
+use Rattle.zsrm.specs.Answers.{claimAnswer, claimSaid, freshAnswer, outcomeSaid, responseAnswer, runAnswer, runSchedule, stepAnswer, verdictAnswer, verdictSaid, witnessAnswer, witnessSaid}
 use Rattle.zsrm.specs.Legal.{claim}
 use Rattle.zsrm.specs.Record.{consistent, fresh, standingAt}
 use Rattle.zsrm.specs.Run.{recordBefore, replayed}
-use Rattle.zsrm.specs.Tables.{Given, deadlineInstant, idle, jobCount, jobCriticality, taskOf, zeroSlackInstant}
+use Rattle.zsrm.specs.Tables.{Given, arrival, deadlineInstant, idle, jobCount, jobCriticality, taskOf, zeroSlackInstant}
 use Rattle.zsrm.specs.Topmost.{Topmost, assured}
 use Rattle.zsrm.proofs.Laws.Accepted.{few-jobs, job}
 use Rattle.zsrm.proofs.Laws.Answers.{is-legal, met-answer, run-claim}
 use Rattle.zsrm.proofs.Laws.Consistent.{advanced-consistent, fresh-consistent, pending-alive}
 use Rattle.zsrm.proofs.Laws.Places.{tick-fresh}
+use Rattle.zsrm.proofs.Laws.Promises.{accepted-says, met-not-missed, missed-accepted, ran-consistent, ran-entry, ran-replayed, ran-step-done, ran-steps, run-checked, shown-entries, shown-length, stepsFrom}
 use Rattle.zsrm.proofs.Laws.Replay.{kept-at, legal-at, legal-dispatch, replayed-is, tick-recordBefore}
-use Rattle.zsrm.proofs.Laws.Said.{outcome-said}
 use Rattle.zsrm.proofs.Laws.Tick.{dispatch-serves, past-of}
 use Rattle.zsrm.proofs.Laws.Topmost.{assured-in-time, topmost-finished}
 
--- Our run's schedule is legal: where the run is done, the claim check answers legal on what it wrote.
-pub run-is-legal : (g : Given) (horizon : ℕ) (lent : List ℕ) → outcomeSaid (runAnswer g horizon lent .outcome) ≡ 0 ∷ []
-    → claimSaid (claimAnswer g horizon (runSchedule g horizon lent)) ≡ 0 ∷ []
-unfolding runAnswer ran outcomeSaid claimSaid
-run-is-legal g horizon lent done = ap claimSaid (run-claim g horizon lent (outcome-said (checkSchedule g horizon lent) Done done))
+-- Our run, where it is done.
+module _ (g : Given) (horizon : ℕ) (lent : List ℕ) (done : outcomeSaid (runAnswer g horizon lent .outcome) ≡ 0 ∷ []) where
+  -- Its schedule is legal: the claim check answers legal on what it wrote.
+  pub run-is-legal : claimSaid (claimAnswer g horizon (runSchedule g horizon lent)) ≡ 0 ∷ []
+  unfolding claimSaid
+  run-is-legal = ap claimSaid (run-claim g horizon lent (run-checked g horizon lent done))
+
+  -- The record it returns is the one at that schedule's end ..
+  pub run-record : runAnswer g horizon lent .«record» ≡ replayed g (runSchedule g horizon lent)
+  run-record = ran-replayed g horizon lent (run-checked g horizon lent done)
+
+  -- .. and is consistent.
+  pub run-consistent : consistent g (runAnswer g horizon lent .«record») ≡ true
+  run-consistent = ran-consistent g horizon lent (run-checked g horizon lent done)
+
+  -- It is also what `step` gives, repeated from the fresh record as often as the horizon says (`stepsFrom g r n`: n times from r) ..
+  pub run-is-steps : runAnswer g horizon lent .«record» ≡ stepsFrom g (freshAnswer (g .tasks) (g .jobs) .«record») horizon
+  run-is-steps = ran-steps g horizon lent (run-checked g horizon lent done)
+
+  -- .. where each of those steps is done, and gives the schedule's entry of its tick.
+  pub run-each-step : (t : ℕ) → t < horizon
+      → (outcomeSaid (stepAnswer g (stepsFrom g (freshAnswer (g .tasks) (g .jobs) .«record») t) .outcome) ≡ 0 ∷ [])
+      × (getD (runSchedule g horizon lent) t idle ≡ stepAnswer g (stepsFrom g (freshAnswer (g .tasks) (g .jobs) .«record») t) .entry)
+  run-each-step t l = let ok = run-checked g horizon lent done in (ran-step-done g horizon lent ok t l, ran-entry g horizon lent ok t l)
+
+-- An accepted witness is exactly a legal schedule in which a job of the list is late (1) or ended (2).
+pub witness-exactly : (g : Given) (horizon : ℕ) (schedule : List ℕ) (j : ℕ) → witnessSaid (witnessAnswer g horizon schedule j) ≡ 0 ∷ []
+    ↔ (claimSaid (claimAnswer g horizon schedule) ≡ 0 ∷ []) × (j < jobCount (g .jobs))
+    × ((verdictSaid (verdictAnswer g (replayed g schedule) j) ≡ 1 ∷ []) ⊎ (verdictSaid (verdictAnswer g (replayed g schedule) j) ≡ 2 ∷ []))
+witness-exactly g horizon schedule j = (accepted-says g horizon schedule j, λ w. missed-accepted g horizon schedule j (w .0) (w .1) (w .2))
 
 -- What follows is of any schedule that the claim check answers legal.
 module _ (g : Given) (horizon : ℕ) (schedule : List ℕ) (legal : claimSaid (claimAnswer g horizon schedule) ≡ 0 ∷ []) where
@@ -43,6 +69,13 @@ module _ (g : Given) (horizon : ℕ) (schedule : List ℕ) (legal : claimSaid (c
       let a = c .input in
       kept-at g 16384 (λ r. consistent g r ≡ true) (λ r p e b l s. advanced-consistent g r e b (legal-dispatch g r p e l) s) (fresh (g .jobs)) idle
       schedule (rw tick-fresh (omega arith)) (c .legal) (fresh-consistent g) t
+
+  -- The part that is shown of a job that finished at f is the schedule's entries from its arrival up to f.
+  pub part-shown : (j f : ℕ) → j < jobCount (g .jobs) → standingAt (replayed g schedule) j ≡ Finished f
+      → (length (responseAnswer g horizon schedule j) ≡ f - arrival (g .jobs) j)
+      × ((i : ℕ) → i < length (responseAnswer g horizon schedule j)
+      → getD (responseAnswer g horizon schedule j) i idle ≡ getD schedule (arrival (g .jobs) j + i) idle)
+  part-shown j f l q = (shown-length g horizon schedule legal j l f q, shown-entries g horizon schedule legal j l f q)
 
   -- A job that is neither finished nor ended at t.
   pub record Pending (t j : ℕ) : Type 0 where
@@ -88,3 +121,7 @@ module _ (g : Given) (horizon : ℕ) (schedule : List ℕ) (legal : claimSaid (c
         let w = finishes-by (omega arith) in
         let end : consistent g (replayed g schedule) ≡ true = subst (λ (r : Record). consistent g r ≡ true) (replayed-is g schedule horizon (a .whole)) (always-consistent horizon) in
         ap verdictSaid (met-answer g (a .lists) (replayed g schedule) end j l (w .0) (w .1) (omega (arith, w .2)))
+
+    -- So no witness is accepted against it: the answer is "not missed" (1).
+    pub never-blamed : deadlineInstant g j ≤ horizon → witnessSaid (witnessAnswer g horizon schedule j) ≡ 1 ∷ []
+    never-blamed h = met-not-missed g horizon schedule legal j l (meets h)

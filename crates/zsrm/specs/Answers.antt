@@ -53,6 +53,7 @@ stepped g r =
       ended = endedWord g r (choice g r);
     }
 
+-- The fresh record, whatever record the method is called on.
 unfoldable pub freshAnswer : List ℕ → List ℕ → Ran
 freshAnswer tasks jobs = ran (checkLists tasks jobs) (fresh jobs)
 
@@ -93,6 +94,7 @@ module _ (g : Given) where
   unfoldable pub witnessAnswer : ℕ → List ℕ → ℕ → Witness
   witnessAnswer horizon schedule j = unless (checkWitness horizon schedule j) witnesses.Refused (witness g schedule j)
 
+  -- refused input and a job not in the list give the empty part
   unfoldable pub responseAnswer : ℕ → List ℕ → ℕ → List ℕ
   responseAnswer horizon schedule j = unless (checkWitness horizon schedule j) (λ number place. []) (part g schedule j)
 

@@ -45,6 +45,6 @@ module _ (g : Given) where
   claimFrom r p [] = Legal
   claimFrom r p (e ∷ es) = elim (legalEntry g r p e) [ true ↦ claimFrom (advanced g r e) e es | false ↦ NotLegal (r .tick) ]
 
-  -- The claim that a whole schedule is.
+  -- The answer to a whole schedule, from the fresh record; idle stands for the entry before tick 0, which no rule looks at.
   unfoldable pub claim : List ℕ → Claim
   claim schedule = claimFrom (fresh (g .jobs)) idle schedule

@@ -13,7 +13,7 @@ module _ (g : Given) where
   replay r [] = r
   replay r (e ∷ es) = replay (advanced g r e) es
 
-  -- the entries of a run of n ticks that takes, at each record, what pick says
+  -- the entries of a run of n ticks that takes, at each record, what pick says: the laws of runs hold for every way to choose
   unfoldable pub entriesBy : (Record → ℕ) → Record → ℕ → List ℕ
   entriesBy pick r zero = []
   entriesBy pick r (suc n) = pick r ∷ entriesBy pick (advanced g r (pick r)) n
@@ -32,12 +32,14 @@ module _ (g : Given) where
   unfoldable pub runRecord : ℕ → Record
   runRecord horizon = final (fresh (g .jobs)) horizon
 
-  -- a schedule's record before its tick t, earlier entries taken as given; and after its last
+  -- the record before tick t of a schedule that starts at r
   unfoldable pub recordAt : Record → List ℕ → ℕ → Record
   recordAt r schedule t = replay r (take t schedule)
 
+  -- the same from the fresh record: earlier entries taken as given
   unfoldable pub recordBefore : List ℕ → ℕ → Record
   recordBefore schedule t = recordAt (fresh (g .jobs)) schedule t
 
+  -- the record after a schedule's last tick
   unfoldable pub replayed : List ℕ → Record
   replayed schedule = replay (fresh (g .jobs)) schedule

@@ -96,6 +96,7 @@ module _ (g : Given) where
       unfoldable pub goesOn : ℕ → Standing
       goesOn j = cond (finishes j) (Finished (suc (r .tick))) (cond (ends j) (Ended (r .tick)) Unfinished)
 
+      -- A job that has not arrived opens at t + 1, if its arrival has come; finished and ended jobs stay so.
       unfoldable pub standingAfter : ℕ → Standing → Standing
       standingAfter j NotArrived = opening (g .jobs) (suc (r .tick)) j
       standingAfter j Unfinished = goesOn j

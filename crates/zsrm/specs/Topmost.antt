@@ -1,4 +1,4 @@
--- Demand 3's premise, and the instant that it assures.
+-- The premise of promise (ii), and the instant that it assures.
 use Prim.Native.Nat.{ℕ, _+_, _≤_, _<_}
 use mathlib.Core.Path.{_≡_}
 use mathlib.Core.List.{List}

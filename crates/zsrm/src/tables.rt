@@ -104,7 +104,7 @@ pub(crate) fn nominal_of(tasks: &[u32], jobs: &[u32], j: u32) -> u32
     task.nominal
 }
 
-// arrival + Z, which two 32-bit numbers may well exceed
+// arrival + Z, in 64 bits, since the sum may not fit in 32
 pub(crate) fn zero_slack_instant(tasks: &[u32], jobs: &[u32], j: u32) -> u64
     ensures { λ r. ⌜ r ≡ zeroSlackInstant (lists (now (tasks .entry)) (now (jobs .entry))) j ⌝ }
 {

@@ -11,7 +11,6 @@ use Rattle.zsrm.specs.declared.answers.Outcome.{Outcome}
 use Rattle.zsrm.specs.declared.answers.Verdict.{Verdict}
 use Rattle.zsrm.specs.declared.answers.Witness.{Witness}
 use Rattle.zsrm.specs.Answers.{claimSaid, outcomeSaid, verdictSaid, witnessSaid}
-use Rattle.zsrm.specs.Traced.{said}
 use Rattle.zsrm.specs.declared.answers.Outcome.the-variants as outcomes
 use Rattle.zsrm.specs.declared.answers.Claim.the-variants as claims
 use Rattle.zsrm.specs.declared.answers.Verdict.the-variants as verdicts
