@@ -15,7 +15,7 @@ taskAt tasks k =
       overload = overload tasks k;
       criticality = record { 0 = criticality tasks k };
       priority = record { 0 = priority tasks k };
-      slack = zeroSlack tasks k;
+      offset = zeroSlack tasks k;
     }
 
 abbrev pub jobAt : List ℕ → ℕ → Job

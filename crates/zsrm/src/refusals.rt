@@ -48,7 +48,7 @@ fn check3(tasks: &[u32], k: u32) -> Outcome
             | outside(1, 16384, task.overload)
             | (255 < task.criticality.0)
             | (63 < task.priority.0)
-            | (16384 < task.slack),
+            | (16384 < task.offset),
         3,
         k,
     )
@@ -62,7 +62,7 @@ fn check4(tasks: &[u32], k: u32) -> Outcome
     refuse(
         (task.overload < task.nominal)
             | (task.period < task.deadline)
-            | (task.deadline < task.slack),
+            | (task.deadline < task.offset),
         4,
         k,
     )

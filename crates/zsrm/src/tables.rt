@@ -39,7 +39,8 @@ pub(crate) struct Task {
     pub overload: u32,
     pub criticality: Criticality,
     pub priority: Priority,
-    pub slack: u32,
+    // Z
+    pub offset: u32,
 }
 
 pub(crate) fn task_at(tasks: &[u32], k: u32) -> Task
@@ -53,7 +54,7 @@ pub(crate) fn task_at(tasks: &[u32], k: u32) -> Task
         overload: at(tasks, first + 3),
         criticality: Criticality(at(tasks, first + 4)),
         priority: Priority(at(tasks, first + 5)),
-        slack: at(tasks, first + 6),
+        offset: at(tasks, first + 6),
     }
 }
 
@@ -110,7 +111,7 @@ pub(crate) fn zero_slack_instant(tasks: &[u32], jobs: &[u32], j: u32) -> u64
 {
     let job = job_at(jobs, j);
     let task = task_of(tasks, jobs, j);
-    (job.arrival as u64) + (task.slack as u64)
+    (job.arrival as u64) + (task.offset as u64)
 }
 
 // arrival + D

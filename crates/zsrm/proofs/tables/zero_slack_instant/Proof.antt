@@ -11,7 +11,7 @@ use Rattle.zsrm.proofs.tables.zero_slack_instant.Tie as tie
 returns : tie.Need-returns
 unfolding zeroSlackInstant
 returns c =
-    ap₂ (λ (b : Job) (t : Task). b .arrival + t .slack) (c .before .before .before .job-at .ensures) (c .before .before .task-of .ensures)
+    ap₂ (λ (b : Job) (t : Task). b .arrival + t .offset) (c .before .before .before .job-at .ensures) (c .before .before .task-of .ensures)
 
 pub zero-slack-instant-spec : {M : Type 1} → statement M
 zero-slack-instant-spec =
