@@ -3,7 +3,8 @@
 
    Link with libzsrm.a (x86-64). The calls keep no state from one to the next, allocate nothing and
    need nothing of the C library but its memory functions (memcpy, memset). Several threads may
-   call at once, each on lists of its own.
+   call at once, each with a schedule of its own; lists that are only read may be shared. C99 or
+   later, or C++.
 
    The lists
    ---------
@@ -14,7 +15,7 @@
                from 0. Larger priority runs first, larger criticality matters more.
      jobs      three numbers of four bytes per job: task, arrival, execution time c. Jobs are
                numbered from 0, stand in order of arrival, and two successive jobs of one task lie
-               at least T apart.
+               at least T apart. A job with c = 0 is permitted: it is finished as it arrives.
      schedule  one number of two bytes per tick: a job number, or ZSRM_IDLE. Entry t covers the
                time from t to t + 1. Its length is the horizon.
 
@@ -30,7 +31,7 @@
    ------------------
    A job that has arrived and is neither finished nor ended is past zero slack from arrival + Z on.
    It then suspends every strictly less critical job. Of the jobs that are not suspended one of the
-   highest priority runs. In mode SE a job past zero slack that runs longer than C also ends, for
+   highest priority runs. In mode SE a job past zero slack that has run longer than C also ends, for
    good, every strictly less critical job that has arrived. A claim may settle ties among equal
    priorities in any way, but may change from one job to another only at a scheduling instant: a
    job arrives, finishes or reaches arrival + Z or, in SE, the job that ran has just reached C.
@@ -43,8 +44,8 @@
 
    The stack
    ---------
-   A call of zsrm_run was measured to need 10,472 bytes of stack and one of zsrm_claim 9,672, the
-   most over lists of every shape; nothing recurses. host/run bench measures both again.
+   Over the benchmark's inputs a call of zsrm_run was measured to need 7,336 bytes of stack and one
+   of zsrm_claim 9,672; nothing recurses. host/run bench measures both again.
 
    An example
    ----------
@@ -80,7 +81,7 @@
 #include <stddef.h>
 #include <stdint.h>
 
-/* Modes: in SE a job that runs past its nominal time ends the less critical ones. */
+/* Modes: in SE a job past zero slack that has run longer than C ends the less critical ones. */
 #define ZSRM_MODE_S 0u
 #define ZSRM_MODE_SE 1u
 
@@ -100,7 +101,8 @@
 #define ZSRM_IDLE 65535
 
 /* Refusal numbers. The lowest class goes first: 1, 2, tasks ascending (3 before 4 for each), 5,
-   jobs ascending (6, 7, 8 for each), 9, 10. The place is the task or job named last, else 0. */
+   jobs ascending (6, 7, 8 for each), 9, 10. The place is the task or the job
+   where a line below ends in one of these, else 0. */
 #define ZSRM_REFUSED_MODE 1             /* the mode is neither S nor SE */
 #define ZSRM_REFUSED_TASKS_LENGTH 2     /* no whole number of tasks, or none, or over 16 */
 #define ZSRM_REFUSED_TASK_RANGE 3       /* a field outside its range; the task */
@@ -123,7 +125,8 @@ uint32_t zsrm_run(uint32_t mode, const uint8_t *tasks, size_t tasks_len, const u
                   size_t jobs_len, uint32_t horizon, uint8_t *schedule, size_t schedule_len);
 
 /* Checks a claimed schedule, whichever way it settles ties. Gives 0 where it is legal, else 65536
-   plus the least tick at which it is not, or a refusal. An entry that is no job is not legal. */
+   plus the least tick at which it is not, or a refusal. An entry that is neither a job's number
+   nor ZSRM_IDLE is not legal at its tick. */
 uint32_t zsrm_claim(uint32_t mode, const uint8_t *tasks, size_t tasks_len, const uint8_t *jobs,
                     size_t jobs_len, uint32_t horizon, const uint8_t *schedule,
                     size_t schedule_len);

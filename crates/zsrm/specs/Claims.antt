@@ -1,11 +1,14 @@
--- How the code checks an entry of a claim, from the view of the record. No contract that callers see cites it; the laws in
+-- How the code checks an entry of a claim, from the view of the record, and what it asks before it shows a part. No contract that callers see cites it; the laws in
 -- proofs/Laws/Claims join it to "Legal schedules".
-use Prim.Native.Nat.{ℕ}
+use Prim.Native.Nat.{ℕ, _≤_}
 use mathlib.Core.Bool.{Bool, _&&_, _||_, cond}
 use mathlib.Core.List.{List}
 use mathlib.Core.Path.{_≡_}
+use lib.ListN.{length}
 use lib.Dec.{ltb, eqb}
 use Rattle.bits.specs.Below.{greatest, bit}
+use Rattle.zsrm.specs.declared.record.Standing.{Standing}
+use Rattle.zsrm.specs.declared.record.Standing.the-variants.{NotArrived, Unfinished, Finished, Ended}
 use Rattle.zsrm.specs.declared.record.Place.{Place}
 use Rattle.zsrm.specs.declared.record.Record.{Record}
 use Rattle.zsrm.specs.declared.tick.View.{View}
@@ -39,3 +42,10 @@ module _ (g : Given) where
 pub record ReplayedAs (g : Given) (schedule : List ℕ) (r : Replayed) : Type 0 where
   pub says : r .claim ≡ claim g schedule
   pub ends : claim g schedule ≡ Legal → r .«record» ≡ replayed g schedule
+
+-- a finishing instant that lies within the schedule, at or after arrival: what the code asks before it takes the part
+abbrev pub FitsIn : ℕ → List ℕ → Standing → Type 0
+FitsIn a schedule NotArrived = Unit {0}
+FitsIn a schedule Unfinished = Unit {0}
+FitsIn a schedule (Finished f) = (a ≤ f) × (f ≤ length schedule)
+FitsIn a schedule (Ended e) = Unit {0}

@@ -1,4 +1,4 @@
--- Document 01, "Traced schedules": the cases marked P, and one of ours, as one table. What a case says is set beside what the entry points answer.
+-- Document 01, "Traced schedules": the cases marked P, case 11, and one of ours, as one table. What a case says is set beside what the entry points answer.
 use Prim.Native.Nat.{ℕ}
 use mathlib.Core.List.{List, [], _∷_, _++_, map}
 use lib.ListN.{replicate}
@@ -6,7 +6,7 @@ use Rattle.bits.specs.Below.{listFrom}
 use Rattle.zsrm.specs.declared.tables.Mode.{Mode}
 use Rattle.zsrm.specs.declared.tables.Mode.the-variants.{S, SE}
 use Rattle.zsrm.specs.declared.record.Standing.{Standing}
-use Rattle.zsrm.specs.declared.record.Standing.the-variants.{Unfinished, Finished, Ended}
+use Rattle.zsrm.specs.declared.record.Standing.the-variants.{NotArrived, Unfinished, Finished, Ended}
 use Rattle.zsrm.specs.declared.answers.Outcome.{Outcome}
 use Rattle.zsrm.specs.declared.answers.Outcome.the-variants.{Done}
 use Rattle.zsrm.specs.declared.answers.Claim.{Claim}
@@ -119,7 +119,7 @@ nested =
           };
     }
 
--- the cases 1 to 9, 10 in either mode, and ours
+-- the cases 1 to 9, 10 in either mode, 11, which has horizon 0, and ours
 unfoldable pub table : List Case
 table =
     onFig1 S (listA 5) 16 (0 ∷ 0 ∷ 0 ∷ 0 ∷ 1 ∷ 1 ∷ 1 ∷ 1 ∷ 2 ∷ 2 ∷ 1 ∷ 2 ∷ 2 ∷ idle ∷ idle ∷ idle ∷ [])
@@ -143,5 +143,6 @@ table =
     (Finished 4 ∷ Finished 16 ∷ Ended 11 ∷ Finished 20 ∷ []) (Met ∷ Met ∷ EndedV ∷ Met ∷ [])
     ∷ onEquals S
     ∷ onEquals SE
+    ∷ onFig1 S (listA 5) 0 [] (Unfinished ∷ Unfinished ∷ NotArrived ∷ []) (Open ∷ Open ∷ Open ∷ [])
     ∷ nested
     ∷ []

@@ -1,8 +1,8 @@
 -- Document 01, verdicts, witnesses, and the part of the schedule that is shown.
-use Prim.Native.Nat.{ℕ, _-_, _≤_}
+use Prim.Native.Nat.{ℕ, _-_}
 use mathlib.Core.Bool.{Bool, true, false, cond}
 use mathlib.Core.List.{List, []}
-use lib.ListN.{length, take, drop}
+use lib.ListN.{take, drop}
 use lib.Dec.{leb}
 use Rattle.zsrm.specs.declared.record.Standing.{Standing}
 use Rattle.zsrm.specs.declared.record.Standing.the-variants.{NotArrived, Unfinished, Finished, Ended}
@@ -56,13 +56,6 @@ abbrev pub shownBy : Claim → List ℕ → List ℕ
 shownBy (claims.Refused number place) part = []
 shownBy (claims.NotLegal t) part = []
 shownBy claims.Legal part = part
-
--- a finishing instant that lies within the schedule, at or after arrival: what the code asks before it takes the part
-abbrev pub FitsIn : ℕ → List ℕ → Standing → Type 0
-FitsIn a schedule NotArrived = Unit {0}
-FitsIn a schedule Unfinished = Unit {0}
-FitsIn a schedule (Finished f) = (a ≤ f) × (f ≤ length schedule)
-FitsIn a schedule (Ended e) = Unit {0}
 
 module _ (g : Given) (schedule : List ℕ) where
   -- A witness is a claim with a job number.

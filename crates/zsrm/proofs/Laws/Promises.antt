@@ -16,6 +16,7 @@ use Rattle.zsrm.specs.declared.answers.Stepped.{Stepped}
 use Rattle.zsrm.specs.declared.record.Record.{Record}
 use Rattle.zsrm.specs.declared.record.Standing.the-variants.{Finished}
 use Rattle.zsrm.specs.Answers.{checkGiven, checkSchedule, checkStep, checkVerdict, checkWitness, claimAnswer, claimSaid, freshAnswer, outcomeSaid, ran, responseAnswer, runAnswer, runSchedule, stepAnswer, stepped, unless, verdictAnswer, verdictSaid, witnessAnswer, witnessSaid}
+use Rattle.zsrm.specs.Claims.{FitsIn}
 use Rattle.zsrm.specs.Legal.{claim}
 use Rattle.zsrm.specs.Record.{consistent, fresh, standingAt}
 use Rattle.zsrm.specs.Refusals.{ascending, before, check11, check12, check13, check2, check3, check4, checkLists, checkTasks, outside, refuse}
@@ -23,7 +24,7 @@ use Rattle.zsrm.specs.Run.{entries, entriesBy, final, replay, replayed, 
 use Rattle.zsrm.specs.Tables.{Given, arrival, criticality, deadline, idle, jobCount, nominal, overload, period, priority, taskCount, zeroSlack}
 use Rattle.zsrm.specs.Tick.{advanced, choice}
 use Rattle.zsrm.specs.Topmost.{Topmost}
-use Rattle.zsrm.specs.Verdict.{FitsIn, missed, part, verdict, witness}
+use Rattle.zsrm.specs.Verdict.{missed, part, verdict, witness}
 use Rattle.zsrm.proofs.Laws.Accepted.{few-jobs}
 use Rattle.zsrm.proofs.Laws.Answers.{accepted, accepted-lists, is-legal, unless-done}
 use Rattle.zsrm.proofs.Laws.Consistent.{fresh-consistent}

@@ -17,14 +17,14 @@ use Rattle.zsrm.specs.declared.record.Standing.{Standing}
 use Rattle.zsrm.specs.declared.record.Standing.the-variants.{Ended, Finished, NotArrived, Unfinished}
 use Rattle.zsrm.specs.declared.tables.Mode.{Mode}
 use Rattle.zsrm.specs.Answers.{checkGiven, checkSchedule, checkVerdict, checkWitness, given}
-use Rattle.zsrm.specs.Claims.{ReplayedAs}
+use Rattle.zsrm.specs.Claims.{FitsIn, ReplayedAs}
 use Rattle.zsrm.specs.Fields.{lists}
 use Rattle.zsrm.specs.Legal.{claim}
 use Rattle.zsrm.specs.Record.{consistent, doneAt, fresh, standingAt}
 use Rattle.zsrm.specs.Refusals.{check11, check13, checkLists}
 use Rattle.zsrm.specs.Run.{recordBefore, replayed}
 use Rattle.zsrm.specs.Tables.{Given, arrival, deadlineInstant, idle, jobCount}
-use Rattle.zsrm.specs.Verdict.{FitsIn, answered, missed, part, partTo, shownBy, verdict, witness}
+use Rattle.zsrm.specs.Verdict.{answered, missed, part, partTo, shownBy, verdict, witness}
 use Rattle.zsrm.proofs.Laws.Answers.{Accepted, accepted, accepted-lists}
 use Rattle.zsrm.proofs.Laws.Consistent.{Sound, advanced-consistent, fresh-consistent, sound-at}
 use Rattle.zsrm.proofs.Laws.Places.{tick-fresh}

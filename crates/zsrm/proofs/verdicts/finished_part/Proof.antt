@@ -13,7 +13,8 @@ use Rattle.zsrm.specs.declared.record.Standing.the-variants.{NotArrived,
 use Rattle.zsrm.specs.declared.tables.Job.{Job}
 use Rattle.zsrm.specs.Tables.{arrival}
 use Rattle.zsrm.specs.Fields.{jobAt}
-use Rattle.zsrm.specs.Verdict.{partTo, FitsIn}
+use Rattle.zsrm.specs.Verdict.{partTo}
+use Rattle.zsrm.specs.Claims.{FitsIn}
 use Rattle.zsrm.proofs.record.Standing.{the-type}
 use Rattle.zsrm.proofs.verdicts.finished_part.Statement.{statement}
 use Rattle.zsrm.proofs.verdicts.finished_part.Tie as tie

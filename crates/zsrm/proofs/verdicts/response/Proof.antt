@@ -7,7 +7,8 @@ use borrow.Author.Needs.{needs}
 use Rattle.zsrm.specs.declared.record.Record.{Record}
 use Rattle.zsrm.specs.Tables.{arrival}
 use Rattle.zsrm.specs.Record.{standingAt}
-use Rattle.zsrm.specs.Verdict.{FitsIn, part}
+use Rattle.zsrm.specs.Verdict.{part}
+use Rattle.zsrm.specs.Claims.{FitsIn}
 use Rattle.zsrm.specs.Answers.{given, checkWitness, responseAnswer}
 use Rattle.zsrm.proofs.Laws.Answers.{unless-done, unless-refused}
 use Rattle.zsrm.proofs.Laws.Verdicts.{witnessed, part-fits, part-answer}
