@@ -1,0 +1,114 @@
+-- Laws of reading: the digits before a position and those from it on.
+use Prim.Native.Nat.{_*_, _+_, _-_, _<_, _^_, suc, zero, ℕ, _≤_}
+use mathlib.Core.Bool.{false, true}
+use mathlib.Core.List.{List, [], _∷_}
+use mathlib.Core.Path.{ap, refl, _∙_, _≡_}
+use native.Mathlib.Nat.{pow-le-pow-right, pow-suc}
+use native.Mathlib.Numerals.{add-one}
+use native.Mathlib.Omega.{arith}
+use lib.Dec.{lit<}
+use lib.ListN.{drop, getD, length}
+use lib.Seq.{drop-nil}
+use borrow.Author.Tests.{le-leb, lt-leb}
+use Rattle.decimal.specs.declared.Number.the-variants.{Malformed, Value}
+use Rattle.decimal.specs.Decimal.{isDigit, judged, numberAt, run, spelled}
+
+-- within a list the default does not count
+pub getD-any : (l : List ℕ) (i d e : ℕ) → i < length l → getD l i d ≡ getD l i e
+getD-any [] i d e h = absurd (omega arith)
+getD-any (x ∷ xs) zero d e h = refl
+getD-any (x ∷ xs) (suc i) d e h = getD-any xs i d e (omega arith)
+
+-- a byte stands only within the text
+pub in-range : (l : List ℕ) (i : ℕ) → getD l i 256 < 256 → i < length l
+in-range [] i h = absurd (omega arith)
+in-range (x ∷ xs) zero h = omega arith
+in-range (x ∷ xs) (suc i) h = let r = in-range xs i h in omega arith
+
+pub run-more : (s : List ℕ) (k : ℕ) → isDigit (getD s k 256) ≡ true → run (drop k s) ≡ getD s k 256 ∷ run (drop (suc k) s)
+unfolding run
+run-more [] k e = let z : _≡_ {A = ℕ} 0 1 = cc in absurd (omega arith)
+run-more (x ∷ xs) zero e = rw e
+run-more (x ∷ xs) (suc k) e = run-more xs k e
+
+pub run-stop : (s : List ℕ) (k : ℕ) → isDigit (getD s k 256) ≡ false → run (drop k s) ≡ []
+unfolding run
+run-stop [] k e = rw drop-nil
+run-stop (x ∷ xs) zero e = rw e
+run-stop (x ∷ xs) (suc k) e = run-stop xs k e
+
+pub digit-yes : (b : ℕ) → 48 ≤ b → b ≤ 57 → isDigit b ≡ true
+digit-yes b l h = rw (le-leb _ _ l, le-leb _ _ h)
+
+pub digit-low : (b : ℕ) → b < 48 → isDigit b ≡ false
+digit-low b l = rw (lt-leb _ _ l)
+
+pub digit-high : (b : ℕ) → 48 ≤ b → 57 < b → isDigit b ≡ false
+digit-high b l h = rw (le-leb _ _ l, lt-leb _ _ h)
+
+-- what a reader knows after n digits: their value, and what is left to read
+pub record Read (s : List ℕ) (at value n k : ℕ) : Type 0 where
+  pub few : n ≤ 5
+  pub place : k ≡ at + n
+  pub small : value < 10 ^ n
+  pub same : spelled 0 (run (drop at s)) ≡ spelled value (run (drop k s))
+  pub count : length (run (drop at s)) ≡ n + length (run (drop k s))
+
+pub read-none : (s : List ℕ) (at : ℕ) → Read s at 0 0 at
+read-none s at = record { few = omega arith; place = omega arith; small = lit< tt; same = refl; count = omega arith }
+
+pub read-small : (value n : ℕ) → value < 10 ^ n → n < 5 → value < 10000
+read-small value n h l =
+    let p : 10 ^ n ≤ 10 ^ 4 = pow-le-pow-right (lit< tt) {i = n} {j = 4} (omega arith) in
+    omega arith
+
+module _ {s : List ℕ} {at value n k : ℕ} (r : Read s at value n k) where
+  pub read-more : (b : ℕ) → n < 5 → b ≡ getD s k 256 → 48 ≤ b → b ≤ 57 → Read s at (value * 10 + (b - 48)) (n + 1) (k + 1)
+  unfolding spelled
+  read-more b l e lo hi =
+      let m : run (drop k s) ≡ b ∷ run (drop (k + 1) s) = rw (add-one, e) (run-more s k (rw (← e) (digit-yes b lo hi))) in
+      let p : 10 ^ (n + 1) ≡ 10 ^ n * 10 = rw add-one (pow-suc 10 n) in
+      let v = r .small in
+      let c = r .count in
+      let c′ = ap length m in
+      let q = r .place in
+      record {
+        few = omega arith;
+        place = omega arith;
+        small = omega arith;
+        same = r .same ∙ rw m;
+        count = omega arith;
+      }
+
+  pub read-long : (b : ℕ) → 5 ≤ n → b ≡ getD s k 256 → 48 ≤ b → b ≤ 57 → numberAt s at ≡ Malformed
+  unfolding numberAt judged
+  read-long b l e lo hi =
+      let m : run (drop k s) ≡ b ∷ run (drop (suc k) s) = rw e (run-more s k (rw (← e) (digit-yes b lo hi))) in
+      let c = r .count in
+      let c′ = ap length m in
+      let long : 5 < length (run (drop at s)) = omega arith in
+      let some : 1 ≤ length (run (drop at s)) = omega arith in
+      rw (le-leb _ _ some, lt-leb _ _ long)
+
+  pub read-end : isDigit (getD s k 256) ≡ false → 1 ≤ n → numberAt s at ≡ Value value k
+  unfolding numberAt judged spelled
+  read-end e l =
+      let m = run-stop s k e in
+      let c = r .count in
+      let c′ = ap length m in
+      let q = r .place in
+      let f = r .few in
+      let some : 1 ≤ length (run (drop at s)) = omega arith in
+      let few : length (run (drop at s)) ≤ 5 = omega arith in
+      let here : at + length (run (drop at s)) ≡ k = omega arith in
+      let val : spelled 0 (run (drop at s)) ≡ value = r .same ∙ rw m in
+      rw (le-leb _ _ some, le-leb _ _ few, here, val)
+
+  pub read-nothing : isDigit (getD s k 256) ≡ false → n < 1 → numberAt s at ≡ Malformed
+  unfolding numberAt judged
+  read-nothing e l =
+      let m = run-stop s k e in
+      let c = r .count in
+      let c′ = ap length m in
+      let none : length (run (drop at s)) < 1 = omega arith in
+      rw (lt-leb _ _ none)

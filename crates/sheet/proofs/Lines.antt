@@ -1,0 +1,152 @@
+-- Laws of bytes written one part behind another, and of the listing's lines.
+use Prim.Native.Nat.{ℕ, zero, suc, _+_, _*_, _-_, _≤_, _<_}
+use mathlib.Core.Path.{_≡_, refl, sym, ap, _∙_}
+use mathlib.Core.List.{List, [], _∷_, _++_, append-assoc}
+use mathlib.Core.Bool.{Bool, true, false, cond}
+use native.Mathlib.Numerals.{add-one}
+use native.Mathlib.Omega.{arith}
+use lib.ListN.{length, getD, drop, set, length-append, drop-of-length-le}
+use lib.Seq.{sets, length-sets, drop-cons}
+use lib.Dec.{eqb}
+use borrow.Author.Tests.{eq-eqb, ne-eqb}
+use Rattle.decimal.specs.declared.Written.{Written}
+use Rattle.decimal.specs.declared.Written.the-variants.{NoRoom, To}
+use Rattle.decimal.specs.Decimal.{after, decimal, size, writtenAt}
+use Rattle.decimal.proofs.Writing.{length-digits, size-most, told-no-room, told-to}
+use Rattle.sheet.specs.Listing.{behindFirst, line, entry, stretch, stretchesFrom, stretches}
+use Rattle.sheet.specs.Wrote.{Wrote}
+use Rattle.sheet.proofs.Numbers.{sets-sets}
+
+pub wrote-none : (l : List ℕ) (at : ℕ) → Wrote l at [] l at
+wrote-none l at = record { next-is = omega arith; after-is = refl }
+
+pub wrote-one : (l : List ℕ) (at b : ℕ) → Wrote l at (b ∷ []) (set l at b) (at + 1)
+wrote-one l at b = record { next-is = omega arith; after-is = refl }
+
+pub wrote-more : {l m r xs ys : List ℕ} {at k n : ℕ} → Wrote l at xs m k → Wrote m k ys r n → Wrote l at (xs ++ ys) r n
+wrote-more {l} {m} {r} {xs} {ys} {at} {k} {n} v w =
+    let a = length-append xs ys in
+    let p = v .next-is in
+    let q = w .next-is in
+    record {
+      next-is = omega arith;
+      after-is = w .after-is ∙ rw (v .after-is, p) (sets-sets xs ys l at);
+    }
+
+pub wrote-length : {l m bs : List ℕ} {at k : ℕ} → Wrote l at bs m k → length m ≡ length l
+wrote-length {l} {m} {bs} {at} w = ap length (w .after-is) ∙ length-sets l at bs
+
+pub decimal-length : (x : ℕ) → length (decimal x) ≤ 10
+unfolding decimal
+decimal-length x = omega (arith, length-digits (size 10 x) x, size-most 10 x)
+
+pub field-length : (x b : ℕ) → length (decimal x ++ (b ∷ [])) ≤ 11
+field-length x b = simp length-append (omega (arith, decimal-length x))
+
+-- the room that is left behind a part of at most n bytes
+pub room-left : {l m bs : List ℕ} {at k : ℕ} (n p w : ℕ) → Wrote l at bs m k → length bs ≤ n → at + w ≤ length l → n + p ≤ w → k + p ≤ length m
+room-left n p w v few room h = omega (arith, v .next-is, wrote-length v)
+
+pub room-for-one : (k n : ℕ) → k + 1 ≤ n → k < n
+room-for-one k n h = omega arith
+
+module _ (l : List ℕ) (at x : ℕ) {r : Written} {m : List ℕ} (says : r ≡ writtenAt l at x) (then : m ≡ after l at x) (room : at + 10 ≤ length l) where
+  pub wrote-number : {k : ℕ} → r ≡ To k → Wrote l at (decimal x) m k
+  wrote-number e =
+      let told = told-to l at x says then room e in
+      record { next-is = told .0; after-is = told .1 }
+
+  pub wrote-nothing : r ≡ NoRoom → ⊥
+  wrote-nothing e = told-no-room l at x says then room e
+
+pub entry-idle : (e : ℕ) → e ≡ 65535 → entry e ≡ 45 ∷ []
+unfolding entry
+entry-idle e q = rw (eq-eqb _ _ q)
+
+pub entry-job : (e : ℕ) → (e ≡ 65535 → ⊥) → entry e ≡ decimal e
+unfolding entry
+entry-job e q = rw (ne-eqb _ _ q)
+
+pub entry-length : (e : ℕ) → length (entry e) ≤ 10
+unfolding entry
+entry-length e = by-test (eqb e 65535)
+  where
+    by-test : (b : Bool) → length (cond b (45 ∷ []) (decimal e)) ≤ 10
+    by-test true = omega arith
+    by-test false = decimal-length e
+
+pub stretch-length : (first next e : ℕ) → length (stretch first next e) ≤ 33
+unfolding stretch line behindFirst
+stretch-length first next e =
+    simp length-append (omega (arith, decimal-length first, decimal-length next, entry-length e))
+
+-- a stretch's line in the parts that the code writes
+pub wrote-stretch : (first next e : ℕ) {l m n o r : List ℕ} {at a b k j : ℕ} → Wrote l at (decimal first ++ (32 ∷ [])) m a → Wrote m a (decimal next ++ (32 ∷ [])) n b
+    → Wrote n b (entry e) o k
+    → Wrote o k (10 ∷ []) r j
+    → Wrote l at (stretch first next e) r j
+unfolding stretch line behindFirst
+wrote-stretch first next e v w x y =
+    let whole = wrote-more v (wrote-more w (wrote-more x y)) in
+    rw (append-assoc, append-assoc) at whole
+
+-- what is known before tick t: the lines written, and the stretch that stands
+pub record Stretched (l : List ℕ) (at : ℕ) (sch : List ℕ) (m : List ℕ) (first cur k t : ℕ) : Type 0 where
+  pub begun : first < t
+  pub within : t ≤ length sch
+  pub done : List ℕ
+  pub wrote : Wrote l at done m k
+  pub rest : done ++ stretchesFrom first cur t (drop t sch) ≡ stretches sch
+  pub few : length done + 33 ≤ 33 * t
+
+pub stretched-first : (l : List ℕ) (at : ℕ) (sch : List ℕ) → (length sch ≡ 0 → ⊥) → Stretched l at sch l 0 (getD sch 0 0) at 1
+unfolding stretches
+stretched-first l at [] h = absurd (h refl)
+stretched-first l at (e ∷ es) h =
+    record { begun = omega arith; within = omega arith; done = []; wrote = wrote-none l at; rest = refl; few = omega arith }
+
+module _ {l m sch : List ℕ} {at first cur k t : ℕ} (s : Stretched l at sch m first cur k t) (h : t < length sch) where
+  pub stretched-same : getD sch t 0 ≡ cur → Stretched l at sch m first cur k (t + 1)
+  unfolding stretchesFrom
+  stretched-same e =
+      let b = s .begun in
+      let f = s .few in
+      let r : stretchesFrom first cur t (drop t sch) ≡ stretchesFrom first cur (t + 1) (drop (t + 1) sch) = rw (add-one, drop-cons sch t 0 h, eq-eqb _ _ e) in
+      record {
+        begun = omega arith;
+        within = omega arith;
+        done = s .done;
+        wrote = s .wrote;
+        rest = rw (← r) (s .rest);
+        few = omega arith;
+      }
+
+  pub stretched-new : {r : List ℕ} {j : ℕ} → (getD sch t 0 ≡ cur → ⊥) → Wrote m k (stretch first t cur) r j → Stretched l at sch r t (getD sch t 0) j (t + 1)
+  unfolding stretchesFrom
+  stretched-new {r} {j} ne w =
+      let f = s .few in
+      let d = s .done in
+      let n = stretch-length first t cur in
+      let q : stretchesFrom first cur t (drop t sch) ≡ stretch first t cur ++ stretchesFrom t (getD sch t 0) (t + 1) (drop (t + 1) sch)
+      = rw (add-one, drop-cons sch t 0 h, ne-eqb _ _ ne) in
+      record {
+        begun = omega arith;
+        within = omega arith;
+        done = d ++ stretch first t cur;
+        wrote = wrote-more (s .wrote) w;
+        rest = rw (append-assoc, ← q) (s .rest);
+        few = simp length-append (omega arith);
+      }
+
+pub stretched-end : {l m sch : List ℕ} {at first cur k t : ℕ} → Stretched l at sch m first cur k t → length sch ≤ t → {r : List ℕ} {j : ℕ}
+    → Wrote m k (stretch first t cur) r j
+    → Wrote l at (stretches sch) r j
+unfolding stretchesFrom
+stretched-end {l} {m} {sch} {at} {first} {cur} {k} {t} s h {r} {j} w =
+    let e : s .done ++ stretch first t cur ≡ stretches sch = rw (drop-of-length-le sch {i = t} h) at (s .rest) in
+    rw (← e) (wrote-more (s .wrote) w)
+
+pub stretches-none : (l : List ℕ) (at : ℕ) (sch : List ℕ) → length sch ≡ 0 → Wrote l at (stretches sch) l at
+unfolding stretches
+stretches-none l at [] h = wrote-none l at
+stretches-none l at (e ∷ es) h = absurd (omega arith)

@@ -1,0 +1,146 @@
+-- Laws of the fields and of the numbers in lines: what has been read so far, and what is left.
+use Prim.Native.Nat.{ℕ, zero, suc, _+_, _-_, _%_, _≤_, _<_}
+use mathlib.Core.Path.{_≡_, refl, sym, ap, _∙_}
+use mathlib.Core.List.{List, [], _∷_, _++_, append-assoc, append-nil}
+use mathlib.Core.Bool.{Bool, true, false, cond}
+use native.Mathlib.Numerals.{add-one}
+use native.Mathlib.Omega.{arith}
+use native.Mathlib.Nat.{sub-zero, add-zero}
+use lib.ListN.{length, getD, set, length-append}
+use lib.Seq.{sets, length-sets}
+use lib.Dec.{eqb}
+use borrow.Author.Tests.{eq-eqb, ne-eqb}
+use Rattle.decimal.specs.declared.Number.{Number}
+use Rattle.decimal.specs.declared.Number.the-variants.{Value, Malformed}
+use Rattle.decimal.specs.Decimal.{numberAt}
+use Rattle.sheet.specs.declared.input.Next.{Next}
+use Rattle.sheet.specs.declared.input.Next.the-variants.{At, Broken}
+use Rattle.sheet.specs.Grammar.{fieldAt, endOf, Numbers, got, bad, behind, andThen, numbersFrom}
+use Rattle.sheet.specs.Reads.{NumbersAre}
+
+module _ (s : List ℕ) (at end v k : ℕ) (p : numberAt s at ≡ Value v k) where
+  pub field-yes : getD s k 256 ≡ end → fieldAt s at end ≡ Value v (k + 1)
+  unfolding fieldAt
+  field-yes q = rw (p, eq-eqb _ _ q)
+
+  pub field-no : (getD s k 256 ≡ end → ⊥) → fieldAt s at end ≡ Malformed
+  unfolding fieldAt
+  field-no q = rw (p, ne-eqb _ _ q)
+
+pub field-bad : (s : List ℕ) (at end : ℕ) → numberAt s at ≡ Malformed → fieldAt s at end ≡ Malformed
+unfolding fieldAt
+field-bad s at end p = rw p
+
+pub end-small : (per i : ℕ) → endOf per i < 256
+end-small per i = by-test (eqb ((i + 1) % per) 0)
+  where
+    by-test : (b : Bool) → cond {A = ℕ} b 10 32 < 256
+    by-test true = omega arith
+    by-test false = omega arith
+
+-- numbers read before others
+abbrev pub before : List ℕ → Numbers → Numbers
+before vs (got ws k) = got (vs ++ ws) k
+before vs bad = bad
+
+before-nil : (f : Numbers) → before [] f ≡ f
+before-nil (got vs k) = refl
+before-nil bad = refl
+
+before-behind : (xs : List ℕ) (v : ℕ) (f : Numbers) → before xs (behind v f) ≡ before (xs ++ (v ∷ [])) f
+before-behind xs v (got vs k) = rw append-assoc
+before-behind xs v bad = refl
+
+module _ (s : List ℕ) (per i n k : ℕ) where
+  numbers-step : {m v j : ℕ} → n ≡ suc m → fieldAt s k (endOf per i) ≡ Value v j → numbersFrom s per i n k ≡ behind v (numbersFrom s per (i + 1) m j)
+  unfolding numbersFrom
+  numbers-step p e = rw (p, e, add-one)
+
+  numbers-stop : {m : ℕ} → n ≡ suc m → fieldAt s k (endOf per i) ≡ Malformed → numbersFrom s per i n k ≡ bad
+  unfolding numbersFrom
+  numbers-stop p e = rw (p, e)
+
+  numbers-done : n ≡ 0 → numbersFrom s per i n k ≡ got [] k
+  unfolding numbersFrom
+  numbers-done p = rw p
+
+pub sets-sets : (xs ys l : List ℕ) (i : ℕ) → sets (sets l i xs) (i + length xs) ys ≡ sets l i (xs ++ ys)
+sets-sets [] ys l i = rw add-zero
+sets-sets (a ∷ xs) ys l i =
+    let e : i + suc (length xs) ≡ suc i + length xs = omega arith in
+    rw e (sets-sets xs ys (set l i a) (suc i))
+
+-- what is known before number i: the numbers read, and the position of the next
+pub record Filled (s : List ℕ) (per n at : ℕ) (l m : List ℕ) (i k : ℕ) : Type 0 where
+  pub within : i ≤ n
+  pub done : List ℕ
+  pub count : length done ≡ i
+  pub filled : m ≡ sets l 0 done
+  pub rest : before done (numbersFrom s per i (n - i) k) ≡ numbersFrom s per 0 n at
+
+pub filled-none : (s : List ℕ) (per n at : ℕ) (l : List ℕ) → Filled s per n at l l 0 at
+filled-none s per n at l =
+    record { within = omega arith; done = []; count = refl; filled = refl; rest = rw (sub-zero, before-nil) }
+
+module _ {s : List ℕ} {per n at : ℕ} {l m : List ℕ} {i k : ℕ} (f : Filled s per n at l m i k) where
+  pub filled-length : length m ≡ length l
+  filled-length = ap length (f .filled) ∙ length-sets l 0 (f .done)
+
+  pub filled-more : i < n → {v j : ℕ} → fieldAt s k (endOf per i) ≡ Value v j → Filled s per n at l (set m i v) (i + 1) j
+  filled-more h {v} {j} e =
+      let d = f .done in
+      let c = f .count in
+      let p : n - i ≡ suc (n - (i + 1)) = omega arith in
+      let z : 0 + length d ≡ i = omega arith in
+      record {
+        within = omega arith;
+        done = d ++ (v ∷ []);
+        count = simp length-append (omega arith);
+        filled = rw (f .filled, ← z) (sets-sets d (v ∷ []) l 0);
+        rest = sym (before-behind d v (numbersFrom s per (i + 1) (n - (i + 1)) j)) ∙ ap (before d) (sym (numbers-step s per i (n - i) k p e)) ∙ f .rest;
+      }
+
+  pub filled-bad : i < n → fieldAt s k (endOf per i) ≡ Malformed → (x : List ℕ) → NumbersAre (numbersFrom s per 0 n at) Broken l x
+  unfolding NumbersAre
+  filled-bad h e x =
+      let p : n - i ≡ suc (n - (i + 1)) = omega arith in
+      let b : numbersFrom s per 0 n at ≡ bad = sym (f .rest) ∙ ap (before (f .done)) (numbers-stop s per i (n - i) k p e) in
+      rw b
+
+  pub filled-end : n ≤ i → NumbersAre (numbersFrom s per 0 n at) (At k) l m
+  unfolding NumbersAre
+  filled-end h =
+      let p : n - i ≡ 0 = omega arith in
+      let g : numbersFrom s per 0 n at ≡ got (f .done ++ []) k = sym (f .rest) ∙ ap (before (f .done)) (numbers-done s per i (n - i) k p) in
+      rw (g, append-nil) (refl, f .filled)
+
+-- what a caller learns: the numbers, which are as many as were asked for
+pub numbers-at : (f : Numbers) (r : Next) (l m : List ℕ) (k : ℕ) → NumbersAre f r l m → r ≡ At k → (vs : List ℕ) × (f ≡ got vs k) × (m ≡ sets l 0 vs)
+unfolding NumbersAre
+numbers-at (got vs j) r l m k a e =
+    let q : j ≡ k = cc (a .0, e) in
+    (vs, ap (got vs) q, a .1)
+numbers-at bad r l m k a e = let z : _≡_ {A = ℕ} 0 1 = cc in absurd (omega arith)
+
+pub numbers-broken : (f : Numbers) (r : Next) (l m : List ℕ) → NumbersAre f r l m → r ≡ Broken → f ≡ bad
+unfolding NumbersAre
+numbers-broken (got vs j) r l m a e = let z : _≡_ {A = ℕ} 0 1 = cc (a .0, e) in absurd (omega arith)
+numbers-broken bad r l m a e = refl
+
+behind-length : (f : Numbers) (v k n : ℕ) (vs : List ℕ) → behind v f ≡ got vs k → ((ws : List ℕ) (j : ℕ) → f ≡ got ws j → length ws ≡ n) → length vs ≡ suc n
+behind-length (got ws j) v k n vs e h =
+    let q : vs ≡ v ∷ ws = cc in
+    let l = h ws j refl in
+    rw q (omega arith)
+behind-length bad v k n vs e h = let z : _≡_ {A = ℕ} 0 1 = cc in absurd (omega arith)
+
+then-length : (x : Number) (f : ℕ → Numbers) (k n : ℕ) (vs : List ℕ) → andThen x f ≡ got vs k → ((i : ℕ) (ws : List ℕ) (j : ℕ) → f i ≡ got ws j → length ws ≡ n)
+    → length vs ≡ suc n
+then-length (Value v i) f k n vs e h = behind-length (f i) v k n vs e (h i)
+then-length Malformed f k n vs e h = let z : _≡_ {A = ℕ} 0 1 = cc in absurd (omega arith)
+
+pub got-length : (s : List ℕ) (per i n at : ℕ) (vs : List ℕ) (k : ℕ) → numbersFrom s per i n at ≡ got vs k → length vs ≡ n
+unfolding numbersFrom
+got-length s per i zero at vs k e = let q : vs ≡ [] = cc in rw q
+got-length s per i (suc n) at vs k e =
+    then-length (fieldAt s at (endOf per i)) (λ j. numbersFrom s per (suc i) n j) k n vs e (λ a ws j. got-length s per (suc i) n a ws j)

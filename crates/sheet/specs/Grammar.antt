@@ -1,0 +1,119 @@
+-- Document 01, "The listing": the input text. A first line with mode letter (S or E), horizon, task count and job count; a line of seven
+-- numbers for each task; a line of three for each job. Decimal, one space apart, each line ended by a newline, 1 to 5 digits; anything
+-- else is malformed. The bytes: space is 32, newline 10, S 83, E 69; 256 stands for the end of the text.
+use Prim.Native.Nat.{ℕ, zero, suc, _+_, _*_, _/_, _%_}
+use mathlib.Core.Bool.{Bool, true, false, _&&_, _||_, cond}
+use mathlib.Core.List.{List, [], _∷_}
+use lib.ListN.{length, getD, replicate}
+use lib.Seq.{sets}
+use lib.Dec.{leb, eqb}
+use Rattle.decimal.specs.declared.Number.{Number}
+use Rattle.decimal.specs.declared.Number.the-variants.{Value, Malformed}
+use Rattle.decimal.specs.Decimal.{numberAt}
+use Rattle.zsrm.specs.declared.tables.Mode.{Mode}
+use Rattle.zsrm.specs.declared.tables.Mode.the-variants.{S, SE}
+use Rattle.sheet.specs.declared.input.Head.{Head}
+use Rattle.sheet.specs.declared.input.Head.the-variants.{Heading, NoHead}
+use Rattle.sheet.specs.declared.input.Sheet.{Sheet}
+
+-- A number counts where the byte behind it is the one wanted; the position is then the one after that byte.
+abbrev pub endedBy : List ℕ → ℕ → Number → Number
+endedBy text end (Value v k) = cond (eqb (getD text k 256) end) (Value v (k + 1)) Malformed
+endedBy text end Malformed = Malformed
+
+-- The number at a position, with the byte behind it.
+unfoldable pub fieldAt : List ℕ → ℕ → ℕ → Number
+fieldAt text at end = endedBy text end (numberAt text at)
+
+-- Where `per` numbers make a line, number i has a newline behind it if it is the line's last, and one space otherwise.
+abbrev pub endOf : ℕ → ℕ → ℕ
+endOf per i = cond (eqb ((i + 1) % per) 0) 10 32
+
+-- numbers that were read, with the position after them, or a number that is not there
+pub data Numbers : Type 0 where
+  got : List ℕ → ℕ → Numbers
+  bad : Numbers
+
+abbrev pub behind : ℕ → Numbers → Numbers
+behind v (got vs k) = got (v ∷ vs) k
+behind v bad = bad
+
+abbrev pub andThen : Number → (ℕ → Numbers) → Numbers
+andThen (Value v k) rest = behind v (rest k)
+andThen Malformed rest = bad
+
+-- n numbers in lines of `per`, the first of them being number i.
+unfoldable pub numbersFrom : List ℕ → ℕ → ℕ → ℕ → ℕ → Numbers
+numbersFrom text per i zero at = got [] at
+numbersFrom text per i (suc n) at = andThen (fieldAt text at (endOf per i)) (λ k. numbersFrom text per (suc i) n k)
+
+-- The mode letter is S or E.
+abbrev pub isMode : ℕ → Bool
+isMode b = eqb b 83 || eqb b 69
+
+abbrev pub modeOf : ℕ → Mode
+modeOf b = cond (eqb b 83) S SE
+
+abbrev pub withNumber : Number → (ℕ → ℕ → Head) → Head
+withNumber (Value v k) rest = rest v k
+withNumber Malformed rest = NoHead
+
+-- The first line: mode letter, horizon, task count, job count. A task count over 16 or a job count over 64 is malformed.
+unfoldable pub firstLine : List ℕ → Head
+firstLine text =
+    cond (isMode (getD text 0 256) && eqb (getD text 1 256) 32)
+    (withNumber (fieldAt text 2 32)
+    (λ horizon a. withNumber (fieldAt text a 32)
+    (λ tasks b. withNumber (fieldAt text b 10)
+    (λ jobs e. cond (leb tasks 16 && leb jobs 64) (Heading (getD text 0 256) horizon tasks jobs e) NoHead))))
+    NoHead
+
+-- an input text: mode, horizon, the task table and the job list
+pub data Parsed : Type 0 where
+  parsed : Mode → ℕ → List ℕ → List ℕ → Parsed
+  malformed : Parsed
+
+abbrev pub withHead : Head → (ℕ → ℕ → ℕ → ℕ → ℕ → Parsed) → Parsed
+withHead (Heading letter horizon tasks jobs a) rest = rest letter horizon tasks jobs a
+withHead NoHead rest = malformed
+
+abbrev pub withNumbers : Numbers → (List ℕ → ℕ → Parsed) → Parsed
+withNumbers (got vs k) rest = rest vs k
+withNumbers bad rest = malformed
+
+-- The whole text: first line, a line of seven per task, a line of three per job, and no byte after the last line.
+unfoldable pub parsedOf : List ℕ → Parsed
+parsedOf text =
+    withHead (firstLine text)
+    (λ letter horizon tasks jobs a. withNumbers (numbersFrom text 7 0 (tasks * 7) a)
+    (λ table b. withNumbers (numbersFrom text 3 0 (jobs * 3) b)
+    (λ list e. cond (eqb e (length text)) (parsed (modeOf letter) horizon table list) malformed)))
+
+-- room for 16 tasks and for 64 jobs, all zeros
+unfoldable pub noTasks : List ℕ
+noTasks = replicate 112 0
+
+unfoldable pub noJobs : List ℕ
+noJobs = replicate 192 0
+
+-- the sheet of a malformed text
+unfoldable pub nothing : Sheet
+nothing =
+    record { formed = false; mode = S; horizon = 0; tasks = 0; jobs = 0; table = noTasks; list = noJobs }
+
+-- What was read as a sheet by value: the lists stand at the front of their rooms.
+abbrev pub asSheet : Parsed → Sheet
+asSheet (parsed mode horizon table list) =
+    record {
+      formed = true;
+      mode = mode;
+      horizon = horizon;
+      tasks = length table / 7;
+      jobs = length list / 3;
+      table = sets noTasks 0 table;
+      list = sets noJobs 0 list;
+    }
+asSheet malformed = nothing
+
+unfoldable pub sheetOf : List ℕ → Sheet
+sheetOf text = asSheet (parsedOf text)

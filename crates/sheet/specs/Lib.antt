@@ -1,0 +1,4 @@
+pub mod Grammar
+pub mod Reads
+pub mod Listing
+pub mod Wrote

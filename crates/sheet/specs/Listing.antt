@@ -1,0 +1,109 @@
+-- Document 01, "The listing": the output text, as bytes.
+use Prim.Native.Nat.{ℕ, zero, suc, _+_}
+use mathlib.Core.Bool.{cond}
+use mathlib.Core.List.{List, [], _∷_, _++_}
+use lib.Dec.{eqb}
+use Rattle.decimal.specs.Decimal.{decimal}
+use Rattle.zsrm.specs.declared.tables.Mode.{Mode}
+use Rattle.zsrm.specs.declared.tables.Mode.the-variants.{S, SE}
+use Rattle.zsrm.specs.declared.record.Record.{Record}
+use Rattle.zsrm.specs.declared.record.Standing.{Standing}
+use Rattle.zsrm.specs.declared.record.Standing.the-variants.{NotArrived, Unfinished, Finished, Ended}
+use Rattle.zsrm.specs.declared.answers.Verdict.{Verdict}
+use Rattle.zsrm.specs.declared.answers.Verdict.the-variants as verdicts
+use Rattle.zsrm.specs.declared.answers.Outcome.{Outcome}
+use Rattle.zsrm.specs.Tables.{Given, idle, jobCount}
+use Rattle.zsrm.specs.Refusals.{before, check9}
+use Rattle.zsrm.specs.Record.{standingAt}
+use Rattle.zsrm.specs.Run.{runEntries, runRecord}
+use Rattle.zsrm.specs.Verdict.{verdict}
+use Rattle.zsrm.specs.Answers.{given, unless, checkGiven}
+use Rattle.sheet.specs.Grammar.{Parsed, parsed, malformed, parsedOf}
+
+-- words one space apart
+unfoldable pub behindFirst : List (List ℕ) → List ℕ
+behindFirst [] = 10 ∷ []
+behindFirst (w ∷ ws) = 32 ∷ (w ++ behindFirst ws)
+
+-- A line: words one space apart, ended by a newline.
+unfoldable pub line : List ℕ → List (List ℕ) → List ℕ
+line w ws = w ++ behindFirst ws
+
+-- `-`
+abbrev pub dash : List ℕ
+dash = 45 ∷ []
+
+-- A refusal is one line: the word `refused`, number, place.
+unfoldable pub refusedLine : ℕ → ℕ → List ℕ
+refusedLine number place = line (114 ∷ 101 ∷ 102 ∷ 117 ∷ 115 ∷ 101 ∷ 100 ∷ []) (decimal number ∷ decimal place ∷ [])
+
+-- the mode letters `S` and `E`
+abbrev pub letter : Mode → List ℕ
+letter S = 83 ∷ []
+letter SE = 69 ∷ []
+
+-- Line 1: the word `run`, mode, horizon.
+unfoldable pub runLine : Mode → ℕ → List ℕ
+runLine mode horizon = line (114 ∷ 117 ∷ 110 ∷ []) (letter mode ∷ decimal horizon ∷ [])
+
+-- a schedule entry: a job number, or `-` for idle
+unfoldable pub entry : ℕ → List ℕ
+entry e = cond (eqb e idle) dash (decimal e)
+
+-- A stretch of equal entries: first tick, tick after the last, job or `-`.
+unfoldable pub stretch : ℕ → ℕ → ℕ → List ℕ
+stretch first next e = line (decimal first) (decimal next ∷ entry e ∷ [])
+
+-- the stretches from tick t on, where e has stood since tick `first`; the next entries are given
+unfoldable pub stretchesFrom : ℕ → ℕ → ℕ → List ℕ → List ℕ
+stretchesFrom first e t [] = stretch first t e
+stretchesFrom first e t (d ∷ ds) =
+    cond (eqb d e) (stretchesFrom first e (suc t) ds) (stretch first t e ++ stretchesFrom t d (suc t) ds)
+
+-- Each longest stretch of equal entries.
+unfoldable pub stretches : List ℕ → List ℕ
+stretches [] = []
+stretches (e ∷ es) = stretchesFrom 0 e 1 es
+
+-- the words `met`, `late`, `ended`, `open`; the verdict on a job of the list is no refusal
+abbrev pub word : Verdict → List ℕ
+word (verdicts.Refused number place) = []
+word verdicts.Met = 109 ∷ 101 ∷ 116 ∷ []
+word verdicts.Late = 108 ∷ 97 ∷ 116 ∷ 101 ∷ []
+word verdicts.Ended = 101 ∷ 110 ∷ 100 ∷ 101 ∷ 100 ∷ []
+word verdicts.Open = 111 ∷ 112 ∷ 101 ∷ 110 ∷ []
+
+-- finishing instant or ending tick, `-` where there is neither
+abbrev pub instant : Standing → List ℕ
+instant NotArrived = dash
+instant Unfinished = dash
+instant (Finished f) = decimal f
+instant (Ended e) = decimal e
+
+module _ (g : Given) where
+  -- The word `job`, number, verdict, and the instant.
+  unfoldable pub jobLine : Record → ℕ → List ℕ
+  jobLine r j = line (106 ∷ 111 ∷ 98 ∷ []) (decimal j ∷ word (verdict g r j) ∷ instant (standingAt r j) ∷ [])
+
+  -- the lines of the first n jobs
+  unfoldable pub jobLines : Record → ℕ → List ℕ
+  jobLines r zero = []
+  jobLines r (suc n) = jobLines r n ++ jobLine r n
+
+  -- what is printed of a run: line 1, the stretches, the jobs
+  unfoldable pub runListing : ℕ → List ℕ
+  runListing horizon =
+      runLine (g .mode) horizon ++ (stretches (runEntries g horizon) ++ jobLines (runRecord g horizon) (jobCount (g .jobs)))
+
+  -- the refusals of the lists and of the horizon, lowest first, or the run
+  unfoldable pub givenListing : ℕ → List ℕ
+  givenListing horizon = unless (before (checkGiven g) (check9 horizon)) refusedLine (runListing horizon)
+
+-- A malformed text is 14, before all else.
+abbrev pub parsedListing : Parsed → List ℕ
+parsedListing (parsed mode horizon tasks jobs) = givenListing (given mode tasks jobs) horizon
+parsedListing malformed = refusedLine 14 0
+
+-- What the program prints for an input text.
+unfoldable pub listing : List ℕ → List ℕ
+listing text = parsedListing (parsedOf text)

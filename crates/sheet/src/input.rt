@@ -1,0 +1,170 @@
+// The input text: a first line, a line for each task, a line for each job, and nothing after them.
+ghost use mathlib.Core.Path.{_≡_};
+ghost use Prim.Native.Nat.{_≤_, _<_};
+ghost use lib.ListN.{length};
+ghost use Rattle.sheet.specs.Grammar.{endOf, fieldAt, firstLine, isMode, modeOf, noJobs, noTasks, nothing, numbersFrom, sheetOf};
+ghost use Rattle.sheet.specs.Reads.{Few, NumbersAre};
+use decimal::Number;
+use zsrm::Mode;
+
+// What an input text says; where it is malformed, not formed, and every number in it is 0.
+pub struct Sheet {
+    pub formed: bool,
+    pub mode: Mode,
+    pub horizon: u32,
+    pub tasks: usize,
+    pub jobs: usize,
+    pub table: [u32; 112],
+    pub list: [u32; 192],
+}
+
+// The first line: mode letter, horizon, task count, job count, and the position after it.
+pub(crate) enum Head {
+    Heading(u32, u32, u32, u32, usize),
+    NoHead,
+}
+
+// The position after what was read.
+pub(crate) enum Next {
+    At(usize),
+    Broken,
+}
+
+// A number and the byte behind it.
+fn field(text: &[u8], at: usize, end: u32) -> Number
+    requires { ⌜ end < 256 ⌝ }
+    ensures { λ r. ⌜ r ≡ fieldAt (now (text .entry)) at end ⌝ }
+{
+    match decimal::read(text, at) {
+        Number::Value(v, k) => {
+            if decimal::byte_at(text, k) == end {
+                return Number::Value(v, k + 1);
+            }
+            Number::Malformed
+        }
+        Number::Malformed => Number::Malformed,
+    }
+}
+
+// The byte behind number i, where `per` numbers make a line.
+fn end_of(per: usize, i: usize) -> u32
+    requires { ⌜ (1 ≤ per) × (i < 1000) ⌝ }
+    ensures { λ r. ⌜ r ≡ endOf per i ⌝ }
+{
+    if (i + 1) % per == 0 { 10 } else { 32 }
+}
+
+// Reads n numbers, `per` to a line, into the list.
+fn numbers(text: &[u8], at: usize, per: usize, n: usize, list: &mut [u32]) -> Next
+    requires { ⌜ (1 ≤ per) × (n < 1000) ⌝ }
+    requires { ⌜ n ≤ length (now list) ⌝ }
+    ensures { λ r. ⌜ NumbersAre (numbersFrom (now (text .entry)) per 0 n at) r (now (list .entry)) (now (list .exit)) ⌝ }
+{
+    let mut i: usize = 0;
+    let mut k = at;
+    while i < n {
+        let Number::Value(v, next) = field(text, k, end_of(per, i)) else {
+            return Next::Broken;
+        };
+        list[i] = v;
+        k = next;
+        i += 1;
+    }
+    Next::At(k)
+}
+
+fn is_mode(b: u32) -> bool
+    ensures { λ r. ⌜ r ≡ isMode b ⌝ }
+{
+    (b == 83) | (b == 69)
+}
+
+fn mode_of(b: u32) -> Mode
+    ensures { λ r. ⌜ r ≡ modeOf b ⌝ }
+{
+    if b == 83 { Mode::S } else { Mode::SE }
+}
+
+fn first_line(text: &[u8]) -> Head
+    ensures is { λ r. ⌜ r ≡ firstLine (now (text .entry)) ⌝ }
+    ensures few { λ r. ⌜ Few r ⌝ }
+{
+    let letter = decimal::byte_at(text, 0);
+    let mode = is_mode(letter);
+    let space = decimal::byte_at(text, 1);
+    if !(mode & (space == 32)) {
+        return Head::NoHead;
+    }
+    let Number::Value(horizon, a) = field(text, 2, 32) else {
+        return Head::NoHead;
+    };
+    let Number::Value(tasks, b) = field(text, a, 32) else {
+        return Head::NoHead;
+    };
+    let Number::Value(jobs, e) = field(text, b, 10) else {
+        return Head::NoHead;
+    };
+    if !((tasks <= 16) & (jobs <= 64)) {
+        return Head::NoHead;
+    }
+    Head::Heading(letter, horizon, tasks, jobs, e)
+}
+
+fn no_tasks() -> [u32; 112]
+    ensures { λ r. ⌜ r ≡ noTasks ⌝ }
+{
+    [0u32; 112]
+}
+
+fn no_jobs() -> [u32; 192]
+    ensures { λ r. ⌜ r ≡ noJobs ⌝ }
+{
+    [0u32; 192]
+}
+
+// The sheet of a malformed text.
+fn nothing() -> Sheet
+    ensures { λ r. ⌜ r ≡ nothing ⌝ }
+{
+    Sheet {
+        formed: false,
+        mode: Mode::S,
+        horizon: 0,
+        tasks: 0,
+        jobs: 0,
+        table: no_tasks(),
+        list: no_jobs(),
+    }
+}
+
+// What the text says.
+pub fn parse(text: &[u8]) -> Sheet
+    ensures { λ r. ⌜ r ≡ sheetOf (now (text .entry)) ⌝ }
+{
+    let Head::Heading(letter, horizon, t, j, a) = first_line(text) else {
+        return nothing();
+    };
+    let tasks = t as usize;
+    let jobs = j as usize;
+    let mut table = no_tasks();
+    let Next::At(b) = numbers(text, a, 7, tasks * 7, &mut table) else {
+        return nothing();
+    };
+    let mut list = no_jobs();
+    let Next::At(e) = numbers(text, b, 3, jobs * 3, &mut list) else {
+        return nothing();
+    };
+    if e != text.len() {
+        return nothing();
+    }
+    let mode = mode_of(letter);
+    Sheet {
+        formed: true,
+        mode,
+        horizon,
+        tasks,
+        jobs,
+        table,
+        list,
+    }
+}
