@@ -5,7 +5,7 @@ use mathlib.Core.List.{List, [], _∷_, _++_}
 use Rattle.bits.specs.Below.{count, every, greatest, least, listFrom, some}
 use Rattle.decimal.specs.Decimal.{decimal, digits, judged, numberAt, run, size, spelled}
 use Rattle.sheet.specs.Grammar.{fieldAt, firstLine, numbersFrom, parsedOf}
-use Rattle.sheet.specs.Listing.{behindFirst, entry, givenListing, jobLine, jobLines, line, listing, refusedLine, runLine, runListing, stretch, stretches, stretchesFrom}
+use Rattle.sheet.specs.Listing.{behindFirst, entry, givenListing, jobLine, jobLines, judgedLine, line, listing, refusedLine, runLine, runListing, stretch, stretches, stretchesFrom, word, instant}
 use Rattle.zsrm.specs.Answers.{checkGiven, unless}
 use Rattle.zsrm.specs.Record.{arrived, arriving, doneAt, fresh, freshPlace, opening, placeAt, standingAt}
 use Rattle.zsrm.specs.Refusals.{ascending, before, check2, check3, check4, check5, check6, check7, check8, check9, checkJobs, checkLists, checkTasks, outside, preceding, refuse}
@@ -45,20 +45,20 @@ output =
     ∷ []
 
 pub example : listing (joined input) ≡ joined output
-unfolding some every least greatest count taskCount period deadline nominal overload criticality priority zeroSlack jobCount taskOf arrival execution jobCriticality jobPriority jobNominal zeroSlackInstant deadlineInstant refuse before ascending outside check2 check3 check4 checkTasks check5 preceding check6 check7 check8 checkJobs checkLists check9 placeAt doneAt standingAt arriving arrived opening freshPlace fresh alive someJob moreCritical higherPriority pastZeroSlack suspended eligible candidate choice doneAfter over ends finishes goesOn standingAfter placeAfter advanced replay entriesBy entries final runEntries runRecord verdict unless checkGiven listFrom run spelled judged numberAt digits size decimal fieldAt numbersFrom firstLine parsedOf behindFirst line refusedLine runLine entry stretch stretchesFrom stretches jobLine jobLines runListing givenListing listing
+unfolding some every least greatest count taskCount period deadline nominal overload criticality priority zeroSlack jobCount taskOf arrival execution jobCriticality jobPriority jobNominal zeroSlackInstant deadlineInstant refuse before ascending outside check2 check3 check4 checkTasks check5 preceding check6 check7 check8 checkJobs checkLists check9 placeAt doneAt standingAt arriving arrived opening freshPlace fresh alive someJob moreCritical higherPriority pastZeroSlack suspended eligible candidate choice doneAfter over ends finishes goesOn standingAfter placeAfter advanced replay entriesBy entries final runEntries runRecord verdict unless checkGiven listFrom run spelled judged numberAt digits size decimal fieldAt numbersFrom firstLine parsedOf behindFirst line refusedLine runLine entry stretch stretchesFrom stretches word instant judgedLine jobLine jobLines runListing givenListing listing
 example = refl
 
 -- six digits: S 000016 2 3 / refused 14 0
 pub long-number : listing (83 ∷ 32 ∷ 48 ∷ 48 ∷ 48 ∷ 48 ∷ 49 ∷ 54 ∷ 32 ∷ 50 ∷ 32 ∷ 51 ∷ 10 ∷ []) ≡ 114 ∷ 101 ∷ 102 ∷ 117 ∷ 115 ∷ 101 ∷ 100 ∷ 32 ∷ 49 ∷ 52 ∷ 32 ∷ 48 ∷ 10 ∷ []
-unfolding some every least greatest count taskCount period deadline nominal overload criticality priority zeroSlack jobCount taskOf arrival execution jobCriticality jobPriority jobNominal zeroSlackInstant deadlineInstant refuse before ascending outside check2 check3 check4 checkTasks check5 preceding check6 check7 check8 checkJobs checkLists check9 placeAt doneAt standingAt arriving arrived opening freshPlace fresh alive someJob moreCritical higherPriority pastZeroSlack suspended eligible candidate choice doneAfter over ends finishes goesOn standingAfter placeAfter advanced replay entriesBy entries final runEntries runRecord verdict unless checkGiven listFrom run spelled judged numberAt digits size decimal fieldAt numbersFrom firstLine parsedOf behindFirst line refusedLine runLine entry stretch stretchesFrom stretches jobLine jobLines runListing givenListing listing
+unfolding some every least greatest count taskCount period deadline nominal overload criticality priority zeroSlack jobCount taskOf arrival execution jobCriticality jobPriority jobNominal zeroSlackInstant deadlineInstant refuse before ascending outside check2 check3 check4 checkTasks check5 preceding check6 check7 check8 checkJobs checkLists check9 placeAt doneAt standingAt arriving arrived opening freshPlace fresh alive someJob moreCritical higherPriority pastZeroSlack suspended eligible candidate choice doneAfter over ends finishes goesOn standingAfter placeAfter advanced replay entriesBy entries final runEntries runRecord verdict unless checkGiven listFrom run spelled judged numberAt digits size decimal fieldAt numbersFrom firstLine parsedOf behindFirst line refusedLine runLine entry stretch stretchesFrom stretches word instant judgedLine jobLine jobLines runListing givenListing listing
 long-number = refl
 
 -- a small letter: s 16 0 0 / refused 14 0
 pub lower-case : listing (115 ∷ 32 ∷ 49 ∷ 54 ∷ 32 ∷ 48 ∷ 32 ∷ 48 ∷ 10 ∷ []) ≡ 114 ∷ 101 ∷ 102 ∷ 117 ∷ 115 ∷ 101 ∷ 100 ∷ 32 ∷ 49 ∷ 52 ∷ 32 ∷ 48 ∷ 10 ∷ []
-unfolding some every least greatest count taskCount period deadline nominal overload criticality priority zeroSlack jobCount taskOf arrival execution jobCriticality jobPriority jobNominal zeroSlackInstant deadlineInstant refuse before ascending outside check2 check3 check4 checkTasks check5 preceding check6 check7 check8 checkJobs checkLists check9 placeAt doneAt standingAt arriving arrived opening freshPlace fresh alive someJob moreCritical higherPriority pastZeroSlack suspended eligible candidate choice doneAfter over ends finishes goesOn standingAfter placeAfter advanced replay entriesBy entries final runEntries runRecord verdict unless checkGiven listFrom run spelled judged numberAt digits size decimal fieldAt numbersFrom firstLine parsedOf behindFirst line refusedLine runLine entry stretch stretchesFrom stretches jobLine jobLines runListing givenListing listing
+unfolding some every least greatest count taskCount period deadline nominal overload criticality priority zeroSlack jobCount taskOf arrival execution jobCriticality jobPriority jobNominal zeroSlackInstant deadlineInstant refuse before ascending outside check2 check3 check4 checkTasks check5 preceding check6 check7 check8 checkJobs checkLists check9 placeAt doneAt standingAt arriving arrived opening freshPlace fresh alive someJob moreCritical higherPriority pastZeroSlack suspended eligible candidate choice doneAfter over ends finishes goesOn standingAfter placeAfter advanced replay entriesBy entries final runEntries runRecord verdict unless checkGiven listFrom run spelled judged numberAt digits size decimal fieldAt numbersFrom firstLine parsedOf behindFirst line refusedLine runLine entry stretch stretchesFrom stretches word instant judgedLine jobLine jobLines runListing givenListing listing
 lower-case = refl
 
 -- no task: well formed, and refused by the lists: E 16 0 0 / refused 2 0
 pub no-task : listing (69 ∷ 32 ∷ 49 ∷ 54 ∷ 32 ∷ 48 ∷ 32 ∷ 48 ∷ 10 ∷ []) ≡ 114 ∷ 101 ∷ 102 ∷ 117 ∷ 115 ∷ 101 ∷ 100 ∷ 32 ∷ 50 ∷ 32 ∷ 48 ∷ 10 ∷ []
-unfolding some every least greatest count taskCount period deadline nominal overload criticality priority zeroSlack jobCount taskOf arrival execution jobCriticality jobPriority jobNominal zeroSlackInstant deadlineInstant refuse before ascending outside check2 check3 check4 checkTasks check5 preceding check6 check7 check8 checkJobs checkLists check9 placeAt doneAt standingAt arriving arrived opening freshPlace fresh alive someJob moreCritical higherPriority pastZeroSlack suspended eligible candidate choice doneAfter over ends finishes goesOn standingAfter placeAfter advanced replay entriesBy entries final runEntries runRecord verdict unless checkGiven listFrom run spelled judged numberAt digits size decimal fieldAt numbersFrom firstLine parsedOf behindFirst line refusedLine runLine entry stretch stretchesFrom stretches jobLine jobLines runListing givenListing listing
+unfolding some every least greatest count taskCount period deadline nominal overload criticality priority zeroSlack jobCount taskOf arrival execution jobCriticality jobPriority jobNominal zeroSlackInstant deadlineInstant refuse before ascending outside check2 check3 check4 checkTasks check5 preceding check6 check7 check8 checkJobs checkLists check9 placeAt doneAt standingAt arriving arrived opening freshPlace fresh alive someJob moreCritical higherPriority pastZeroSlack suspended eligible candidate choice doneAfter over ends finishes goesOn standingAfter placeAfter advanced replay entriesBy entries final runEntries runRecord verdict unless checkGiven listFrom run spelled judged numberAt digits size decimal fieldAt numbersFrom firstLine parsedOf behindFirst line refusedLine runLine entry stretch stretchesFrom stretches word instant judgedLine jobLine jobLines runListing givenListing listing
 no-task = refl

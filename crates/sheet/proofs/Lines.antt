@@ -5,15 +5,20 @@ use mathlib.Core.List.{List, [], _∷_, _++_, append-assoc}
 use mathlib.Core.Bool.{Bool, true, false, cond}
 use native.Mathlib.Numerals.{add-one}
 use native.Mathlib.Omega.{arith}
-use lib.ListN.{length, getD, drop, set, length-append, drop-of-length-le}
-use lib.Seq.{sets, length-sets, drop-cons}
-use lib.Dec.{eqb}
+use lib.ListN.{length, getD, take, drop, set, length-append, drop-of-length-le}
+use lib.Seq.{sets, length-sets, drop-cons, take-suc}
+use lib.Dec.{eqb, lit≤}
 use borrow.Author.Tests.{eq-eqb, ne-eqb}
 use Rattle.decimal.specs.declared.Written.{Written}
 use Rattle.decimal.specs.declared.Written.the-variants.{NoRoom, To}
 use Rattle.decimal.specs.Decimal.{after, decimal, size, writtenAt}
 use Rattle.decimal.proofs.Writing.{length-digits, size-most, told-no-room, told-to}
-use Rattle.sheet.specs.Listing.{behindFirst, line, entry, stretch, stretchesFrom, stretches}
+use Rattle.zsrm.specs.declared.tables.Mode.{Mode}
+use Rattle.zsrm.specs.declared.record.Standing.{Standing}
+use Rattle.zsrm.specs.declared.record.Standing.the-variants.{NotArrived, Unfinished, Finished, Ended}
+use Rattle.zsrm.specs.declared.answers.Verdict.{Verdict}
+use Rattle.zsrm.specs.declared.answers.Verdict.the-variants as verdicts
+use Rattle.sheet.specs.Listing.{behindFirst, line, word, instant, judgedLine, letter, entry, refusedLine, runLine, stretch, stretchesFrom, stretches}
 use Rattle.sheet.specs.Wrote.{Wrote}
 use Rattle.sheet.proofs.Numbers.{sets-sets}
 
@@ -35,6 +40,14 @@ wrote-more {l} {m} {r} {xs} {ys} {at} {k} {n} v w =
 
 pub wrote-length : {l m bs : List ℕ} {at k : ℕ} → Wrote l at bs m k → length m ≡ length l
 wrote-length {l} {m} {bs} {at} w = ap length (w .after-is) ∙ length-sets l at bs
+
+-- the next byte of a word
+pub wrote-next : {l m : List ℕ} (t : List ℕ) (at i : ℕ) → Wrote l at (take i t) m (at + i) → i < length t
+    → Wrote l at (take (i + 1) t) (set m (at + i) (getD t i 0)) (at + (i + 1))
+wrote-next {l} {m} t at i w h =
+    let e : take (i + 1) t ≡ take i t ++ (getD t i 0 ∷ []) = rw add-one (take-suc t i 0 h) in
+    let one : Wrote m (at + i) (getD t i 0 ∷ []) (set m (at + i) (getD t i 0)) (at + (i + 1)) = record { next-is = omega arith; after-is = refl } in
+    rw e (wrote-more w one)
 
 pub decimal-length : (x : ℕ) → length (decimal x) ≤ 10
 unfolding decimal
@@ -150,3 +163,58 @@ pub stretches-none : (l : List ℕ) (at : ℕ) (sch : List ℕ) → length sch �
 unfolding stretches
 stretches-none l at [] h = wrote-none l at
 stretches-none l at (e ∷ es) h = absurd (omega arith)
+
+-- a refusal's line and the first line, in the parts that the code writes
+pub wrote-refused : (number place : ℕ) {l m n r : List ℕ} {at a b k : ℕ} → Wrote l at (114 ∷ 101 ∷ 102 ∷ 117 ∷ 115 ∷ 101 ∷ 100 ∷ 32 ∷ []) m a
+    → Wrote m a (decimal number ++ (32 ∷ [])) n b
+    → Wrote n b (decimal place ++ (10 ∷ [])) r k
+    → Wrote l at (refusedLine number place) r k
+unfolding refusedLine line behindFirst
+wrote-refused number place v w x =
+    let whole = wrote-more v (wrote-more w x) in
+    rw append-assoc at whole
+
+pub wrote-head : (mode : Mode) (horizon b : ℕ) → b ∷ [] ≡ letter mode → {l m n o r : List ℕ} {at a c d k : ℕ} → Wrote l at (114 ∷ 117 ∷ 110 ∷ 32 ∷ []) m a
+    → Wrote m a (b ∷ []) n c
+    → Wrote n c (32 ∷ []) o d
+    → Wrote o d (decimal horizon ++ (10 ∷ [])) r k
+    → Wrote l at (runLine mode horizon) r k
+unfolding runLine line behindFirst
+wrote-head mode horizon b e v w x y =
+    let whole = wrote-more v (wrote-more w (wrote-more x y)) in
+    rw (← e) whole
+
+pub word-length : (v : Verdict) → length (word v) ≤ 5
+unfolding word
+word-length (verdicts.Refused number place) = lit≤ tt
+word-length verdicts.Met = lit≤ tt
+word-length verdicts.Late = lit≤ tt
+word-length verdicts.Ended = lit≤ tt
+word-length verdicts.Open = lit≤ tt
+
+pub instant-length : (s : Standing) → length (instant s) ≤ 10
+unfolding instant
+instant-length NotArrived = lit≤ tt
+instant-length Unfinished = lit≤ tt
+instant-length (Finished f) = decimal-length f
+instant-length (Ended e) = decimal-length e
+
+-- a job's line, in the parts that the code writes
+pub wrote-verdict : (v : Verdict) (s : Standing) {l m n o r : List ℕ} {at a b c k : ℕ} → Wrote l at (word v) m a → Wrote m a (32 ∷ []) n b → Wrote n b (instant s) o c
+    → Wrote o c (10 ∷ []) r k
+    → Wrote l at (line (word v) (instant s ∷ [])) r k
+unfolding line behindFirst
+wrote-verdict v s w x y z = wrote-more w (wrote-more x (wrote-more y z))
+
+pub wrote-job : (j : ℕ) (v : Verdict) (s : Standing) {l m n r : List ℕ} {at a b k : ℕ} → Wrote l at (106 ∷ 111 ∷ 98 ∷ 32 ∷ []) m a
+    → Wrote m a (decimal j ++ (32 ∷ [])) n b
+    → Wrote n b (line (word v) (instant s ∷ [])) r k
+    → Wrote l at (judgedLine j v s) r k
+unfolding judgedLine line behindFirst
+wrote-job j v s w x y =
+    let whole = wrote-more w (wrote-more x y) in
+    rw append-assoc at whole
+
+pub job-length : (j : ℕ) (v : Verdict) (s : Standing) → length (judgedLine j v s) ≤ 32
+unfolding judgedLine line behindFirst
+job-length j v s = simp length-append (omega (arith, decimal-length j, word-length v, instant-length s))

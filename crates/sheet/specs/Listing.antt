@@ -66,7 +66,7 @@ stretches [] = []
 stretches (e ∷ es) = stretchesFrom 0 e 1 es
 
 -- the words `met`, `late`, `ended`, `open`; the verdict on a job of the list is no refusal
-abbrev pub word : Verdict → List ℕ
+unfoldable pub word : Verdict → List ℕ
 word (verdicts.Refused number place) = []
 word verdicts.Met = 109 ∷ 101 ∷ 116 ∷ []
 word verdicts.Late = 108 ∷ 97 ∷ 116 ∷ 101 ∷ []
@@ -74,16 +74,20 @@ word verdicts.Ended = 101 ∷ 110 ∷ 100 ∷ 101 ∷ 100 ∷ []
 word verdicts.Open = 111 ∷ 112 ∷ 101 ∷ 110 ∷ []
 
 -- finishing instant or ending tick, `-` where there is neither
-abbrev pub instant : Standing → List ℕ
+unfoldable pub instant : Standing → List ℕ
 instant NotArrived = dash
 instant Unfinished = dash
 instant (Finished f) = decimal f
 instant (Ended e) = decimal e
 
+-- The word `job`, number, verdict, and the instant.
+unfoldable pub judgedLine : ℕ → Verdict → Standing → List ℕ
+judgedLine j verdict standing = line (106 ∷ 111 ∷ 98 ∷ []) (decimal j ∷ word verdict ∷ instant standing ∷ [])
+
 module _ (g : Given) where
-  -- The word `job`, number, verdict, and the instant.
+  -- the line of job j from a record
   unfoldable pub jobLine : Record → ℕ → List ℕ
-  jobLine r j = line (106 ∷ 111 ∷ 98 ∷ []) (decimal j ∷ word (verdict g r j) ∷ instant (standingAt r j) ∷ [])
+  jobLine r j = judgedLine j (verdict g r j) (standingAt r j)
 
   -- the lines of the first n jobs
   unfoldable pub jobLines : Record → ℕ → List ℕ

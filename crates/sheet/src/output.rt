@@ -1,11 +1,15 @@
 // The listing's lines, written into a buffer. Each part is written where the part before it ended.
+ghost use mathlib.Core.Path.{_≡_};
 ghost use mathlib.Core.List.{[], _∷_, _++_};
 ghost use Prim.Native.Nat.{_+_, _*_, _≤_, _<_};
 ghost use lib.ListN.{length};
 ghost use Rattle.decimal.specs.Decimal.{decimal};
-ghost use Rattle.sheet.specs.Listing.{entry, stretch, stretches};
+ghost use Rattle.sheet.specs.Listing.{entry, instant, judgedLine, letter, line, refusedLine, runLine, stretch, stretches, word};
 ghost use Rattle.sheet.specs.Wrote.{Wrote};
 use decimal::Written;
+use zsrm::Mode;
+use zsrm::Standing;
+use zsrm::Verdict;
 
 pub(crate) fn put_byte(out: &mut [u8], at: usize, b: u8) -> usize
     requires { ⌜ at < length (now out) ⌝ }
@@ -13,6 +17,19 @@ pub(crate) fn put_byte(out: &mut [u8], at: usize, b: u8) -> usize
 {
     out[at] = b;
     at + 1
+}
+
+// A word, byte by byte.
+pub(crate) fn put_text(out: &mut [u8], at: usize, word: &[u8]) -> usize
+    requires { ⌜ at + length (now word) ≤ length (now out) ⌝ }
+    ensures { λ r. ⌜ Wrote (now (out .entry)) at (now (word .entry)) (now (out .exit)) r ⌝ }
+{
+    let mut i: usize = 0;
+    while i < word.len() {
+        out[at + i] = word[i];
+        i += 1;
+    }
+    at + i
 }
 
 // A number; there is room for any.
@@ -81,4 +98,81 @@ pub(crate) fn put_stretches(out: &mut [u8], at: usize, schedule: &[u16]) -> usiz
         t += 1;
     }
     put_stretch(out, k, first as u32, t as u32, current)
+}
+
+// The one line of a refusal.
+pub(crate) fn put_refused(out: &mut [u8], at: usize, number: u32, place: u32) -> usize
+    requires { ⌜ at + 30 ≤ length (now out) ⌝ }
+    ensures { λ r. ⌜ Wrote (now (out .entry)) at (refusedLine number place) (now (out .exit)) r ⌝ }
+{
+    let a = put_text(out, at, b"refused ");
+    let b = put_field(out, a, number, b' ');
+    put_field(out, b, place, b'\n')
+}
+
+fn letter_of(mode: Mode) -> u8
+    ensures { λ r. ⌜ r ∷ [] ≡ letter mode ⌝ }
+{
+    match mode {
+        Mode::S => b'S',
+        Mode::SE => b'E',
+    }
+}
+
+// Line 1: mode and horizon.
+pub(crate) fn put_head(out: &mut [u8], at: usize, mode: Mode, horizon: u32) -> usize
+    requires { ⌜ at + 17 ≤ length (now out) ⌝ }
+    ensures { λ r. ⌜ Wrote (now (out .entry)) at (runLine mode horizon) (now (out .exit)) r ⌝ }
+{
+    let a = put_text(out, at, b"run ");
+    let b = put_byte(out, a, letter_of(mode));
+    let k = put_byte(out, b, b' ');
+    put_field(out, k, horizon, b'\n')
+}
+
+fn put_word(out: &mut [u8], at: usize, verdict: Verdict) -> usize
+    requires { ⌜ at + 5 ≤ length (now out) ⌝ }
+    ensures { λ r. ⌜ Wrote (now (out .entry)) at (word verdict) (now (out .exit)) r ⌝ }
+{
+    match verdict {
+        Verdict::Refused(_, _) => at,
+        Verdict::Met => put_text(out, at, b"met"),
+        Verdict::Late => put_text(out, at, b"late"),
+        Verdict::Ended => put_text(out, at, b"ended"),
+        Verdict::Open => put_text(out, at, b"open"),
+    }
+}
+
+// Finishing instant or ending tick, `-` where there is neither.
+fn put_instant(out: &mut [u8], at: usize, standing: Standing) -> usize
+    requires { ⌜ at + 10 ≤ length (now out) ⌝ }
+    ensures { λ r. ⌜ Wrote (now (out .entry)) at (instant standing) (now (out .exit)) r ⌝ }
+{
+    match standing {
+        Standing::NotArrived => put_byte(out, at, b'-'),
+        Standing::Unfinished => put_byte(out, at, b'-'),
+        Standing::Finished(f) => put_number(out, at, f),
+        Standing::Ended(e) => put_number(out, at, e),
+    }
+}
+
+// The end of a job's line: verdict and instant.
+fn put_verdict(out: &mut [u8], at: usize, verdict: Verdict, standing: Standing) -> usize
+    requires { ⌜ at + 17 ≤ length (now out) ⌝ }
+    ensures { λ r. ⌜ Wrote (now (out .entry)) at (line (word verdict) (instant standing ∷ [])) (now (out .exit)) r ⌝ }
+{
+    let a = put_word(out, at, verdict);
+    let b = put_byte(out, a, b' ');
+    let k = put_instant(out, b, standing);
+    put_byte(out, k, b'\n')
+}
+
+// The line of job j.
+fn put_job(out: &mut [u8], at: usize, j: u32, verdict: Verdict, standing: Standing) -> usize
+    requires { ⌜ at + 32 ≤ length (now out) ⌝ }
+    ensures { λ r. ⌜ Wrote (now (out .entry)) at (judgedLine j verdict standing) (now (out .exit)) r ⌝ }
+{
+    let a = put_text(out, at, b"job ");
+    let b = put_field(out, a, j, b' ');
+    put_verdict(out, b, verdict, standing)
 }
