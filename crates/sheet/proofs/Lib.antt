@@ -2,3 +2,4 @@ pub mod Numbers
 pub mod Sheets
 pub mod Example
 pub mod Lines
+pub mod Runs

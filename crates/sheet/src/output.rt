@@ -4,10 +4,13 @@ ghost use mathlib.Core.List.{[], _∷_, _++_};
 ghost use Prim.Native.Nat.{_+_, _*_, _≤_, _<_};
 ghost use lib.ListN.{length};
 ghost use Rattle.decimal.specs.Decimal.{decimal};
-ghost use Rattle.sheet.specs.Listing.{entry, instant, judgedLine, letter, line, refusedLine, runLine, stretch, stretches, word};
-ghost use Rattle.sheet.specs.Wrote.{Wrote};
+ghost use Rattle.sheet.specs.Listing.{entry, instant, jobLine, jobLines, judgedLine, letter, line, refusedLine, runLine, stretch, stretches, word};
+ghost use Rattle.sheet.specs.Wrote.{Judged, Wrote};
+ghost use Rattle.zsrm.specs.Tables.{jobCount};
+ghost use Rattle.zsrm.specs.Answers.{given};
 use decimal::Written;
 use zsrm::Mode;
+use zsrm::Record;
 use zsrm::Standing;
 use zsrm::Verdict;
 
@@ -175,4 +178,48 @@ fn put_job(out: &mut [u8], at: usize, j: u32, verdict: Verdict, standing: Standi
     let a = put_text(out, at, b"job ");
     let b = put_field(out, a, j, b' ');
     put_verdict(out, b, verdict, standing)
+}
+
+// The line of job j, from a record.
+fn put_job_at(
+    out: &mut [u8],
+    at: usize,
+    rec: Record,
+    mode: Mode,
+    tasks: &[u32],
+    jobs: &[u32],
+    j: u32,
+) -> usize
+    requires { ⌜ Judged mode (now tasks) (now jobs) rec ⌝ }
+    requires { ⌜ (j < jobCount (now jobs)) × (at + 32 ≤ length (now out)) ⌝ }
+    ensures { λ r. ⌜ Wrote (now (out .entry)) at (jobLine (given mode (now (tasks .entry)) (now (jobs .entry))) rec j) (now (out .exit)) r ⌝ }
+{
+    let verdict = zsrm::verdict(rec, mode, tasks, jobs, j);
+    let i = j as usize;
+    let place = rec.places[i];
+    let standing = place.standing;
+    put_job(out, at, j, verdict, standing)
+}
+
+// The lines of all jobs.
+fn put_jobs(
+    out: &mut [u8],
+    at: usize,
+    rec: Record,
+    mode: Mode,
+    tasks: &[u32],
+    jobs: &[u32],
+) -> usize
+    requires { ⌜ Judged mode (now tasks) (now jobs) rec ⌝ }
+    requires { ⌜ at + 32 * jobCount (now jobs) ≤ length (now out) ⌝ }
+    ensures { λ r. ⌜ Wrote (now (out .entry)) at (jobLines (given mode (now (tasks .entry)) (now (jobs .entry))) rec (jobCount (now (jobs .entry)))) (now (out .exit)) r ⌝ }
+{
+    let n = (jobs.len() / 3) as u32;
+    let mut j: u32 = 0;
+    let mut k = at;
+    while j < n {
+        k = put_job_at(out, k, rec, mode, tasks, jobs, j);
+        j += 1;
+    }
+    k
 }

@@ -2,11 +2,12 @@
 use Prim.Native.Nat.{_+_, _<_, ℕ, _≤_}
 use mathlib.Core.Bool.{not, true}
 use mathlib.Core.List.{List, [], _∷_}
+use mathlib.Core.Logic.{inl, inr, _⊎_}
 use mathlib.Core.Path.{ap, ap₂, refl, sym, _∙_, _≡_}
 use native.Mathlib.Omega.{arith}
-use lib.Dec.{eqb}
+use lib.Dec.{eqb, ltb}
 use lib.ListN.{length}
-use borrow.Author.Tests.{eqb-false, eqb-true, le-leb, lt-ltb, ltb-false, not-false}
+use borrow.Author.Tests.{eq-eqb, eqb-false, eqb-true, le-leb, lt-ltb, ltb-false, not-false}
 use Rattle.bits.proofs.Most.{most}
 use Rattle.zsrm.specs.declared.answers.Outcome.{Outcome}
 use Rattle.zsrm.specs.declared.answers.Outcome.the-variants.{Done, Refused}
@@ -23,7 +24,7 @@ use Rattle.zsrm.specs.Verdict.{verdict}
 use Rattle.zsrm.proofs.Laws.Accepted.{few-jobs}
 use Rattle.zsrm.proofs.Laws.Consistent.{consistent-tick, fresh-consistent}
 use Rattle.zsrm.proofs.Laws.Places.{tick-fresh}
-use Rattle.zsrm.proofs.Laws.Refusals.{before-first, before-second, refuse-fine}
+use Rattle.zsrm.proofs.Laws.Refusals.{before-done, before-first, before-second, refuse-fine}
 use Rattle.zsrm.proofs.Laws.Run.{length-run, our-run-legal}
 use Rattle.zsrm.proofs.Laws.Said.{claim-said}
 use Rattle.zsrm.specs.declared.answers.Claim.the-variants as claims
@@ -77,12 +78,36 @@ is-legal g horizon schedule e =
     go Done q c = record { input = accepted g horizon schedule q; legal = c }
     go (Refused n p) q c = let z : _≡_ {A = ℕ} 0 1 = cc in absurd (omega arith)
 
+-- the verdict on a job of the list, from a consistent record, is no refusal
+pub verdict-answered : (g : Given) → checkGiven g ≡ Done → (r : Record) → consistent g r ≡ true → (j : ℕ) → j < jobCount (g .jobs) → verdictAnswer g r j ≡ verdict g r j
+unfolding verdictAnswer checkVerdict check11 check13 refuse before unless
+verdict-answered g lists r sound j l = rw (lists, sound, lt-ltb j (jobCount (g .jobs)) l)
+
 -- a job that is finished by its deadline is judged met
 pub met-answer : (g : Given) → checkGiven g ≡ Done → (r : Record) → consistent g r ≡ true → (j : ℕ) → j < jobCount (g .jobs)
     → (f : ℕ) → standingAt r j ≡ Finished f → f ≤ deadlineInstant g j → verdictAnswer g r j ≡ Met
-unfolding verdictAnswer checkVerdict check11 check13 verdict refuse before unless
-met-answer g lists r sound j l f q b =
-    rw (lists, sound, lt-ltb j (jobCount (g .jobs)) l, q, le-leb f (deadlineInstant g j) b)
+unfolding verdict
+met-answer g lists r sound j l f q b = verdict-answered g lists r sound j l ∙ rw (q, le-leb f (deadlineInstant g j) b)
+
+-- where the lent list is as long as the horizon, or the horizon is refused, the lists and the horizon decide
+length-fits : (horizon : ℕ) (lent : List ℕ) → (length lent ≡ horizon) ⊎ (16384 < horizon) → before (check9 horizon) (check10 lent horizon) ≡ check9 horizon
+unfolding check9 check10 refuse before
+length-fits horizon lent (inl e) = rw (eq-eqb (length lent) horizon e) (before-done (refuse (ltb 16384 horizon) 9 0))
+length-fits horizon lent (inr l) = rw (lt-ltb 16384 horizon l)
+
+pub schedule-checked : (g : Given) (horizon : ℕ) (lent : List ℕ) → (length lent ≡ horizon) ⊎ (16384 < horizon) → checkSchedule g horizon lent ≡ before (checkGiven g) (check9 horizon)
+unfolding checkSchedule
+schedule-checked g horizon lent fits = ap (before (checkGiven g)) (length-fits horizon lent fits)
+
+pub run-outcome : (g : Given) (horizon : ℕ) (lent : List ℕ) → runAnswer g horizon lent .outcome ≡ checkSchedule g horizon lent
+unfolding runAnswer ran
+run-outcome g horizon lent = refl
+
+-- a run that is not refused
+pub run-given : (g : Given) (horizon : ℕ) (lent : List ℕ) → checkSchedule g horizon lent ≡ Done
+    → (runAnswer g horizon lent .«record» ≡ runRecord g horizon) × (runSchedule g horizon lent ≡ runEntries g horizon)
+unfolding runAnswer ran runSchedule
+run-given g horizon lent ok = (unless-done _ _ (checkSchedule g horizon lent) ok, unless-done _ _ (checkSchedule g horizon lent) ok)
 
 -- what a run that is not refused writes is a legal claim
 pub run-claim : (g : Given) (horizon : ℕ) (lent : List ℕ) → checkSchedule g horizon lent ≡ Done

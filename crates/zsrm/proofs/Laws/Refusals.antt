@@ -28,6 +28,11 @@ unfolding before
 before-second Done b e = e
 before-second (Refused n p) b e = let z : _≡_ {A = ℕ} 0 1 = cc in absurd (omega arith)
 
+pub before-done : (a : Outcome) → before a Done ≡ a
+unfolding before
+before-done Done = refl
+before-done (Refused number place) = refl
+
 pub ascending-at : (f : ℕ → Outcome) (n k : ℕ) → k < n → ascending n f ≡ Done → f k ≡ Done
 unfolding ascending
 ascending-at f zero k l e = absurd (not-suc-le-zero l)
