@@ -3,3 +3,4 @@ pub mod Sheets
 pub mod Example
 pub mod Lines
 pub mod Runs
+pub mod Told

@@ -14,6 +14,7 @@ use Rattle.decimal.specs.declared.Written.the-variants.{NoRoom, To}
 use Rattle.decimal.specs.Decimal.{after, decimal, size, writtenAt}
 use Rattle.decimal.proofs.Writing.{length-digits, size-most, told-no-room, told-to}
 use Rattle.zsrm.specs.declared.tables.Mode.{Mode}
+use Rattle.zsrm.specs.declared.tables.Mode.the-variants.{S, SE}
 use Rattle.zsrm.specs.declared.record.Standing.{Standing}
 use Rattle.zsrm.specs.declared.record.Standing.the-variants.{NotArrived, Unfinished, Finished, Ended}
 use Rattle.zsrm.specs.declared.answers.Verdict.{Verdict}
@@ -218,3 +219,24 @@ wrote-job j v s w x y =
 pub job-length : (j : ℕ) (v : Verdict) (s : Standing) → length (judgedLine j v s) ≤ 32
 unfolding judgedLine line behindFirst
 job-length j v s = simp length-append (omega (arith, decimal-length j, word-length v, instant-length s))
+
+pub head-length : (mode : Mode) (horizon : ℕ) → length (runLine mode horizon) ≤ 17
+unfolding runLine line behindFirst
+head-length S horizon = simp length-append (omega (arith, decimal-length horizon))
+head-length SE horizon = simp length-append (omega (arith, decimal-length horizon))
+
+-- a line of at most 33 bytes for each stretch, and a tick at least for each
+from-length : (es : List ℕ) (first e t : ℕ) → length (stretchesFrom first e t es) ≤ 33 + 33 * length es
+unfolding stretchesFrom
+from-length [] first e t = omega (arith, stretch-length first t e)
+from-length (d ∷ es) first e t = by-test (eqb d e) (from-length es first e (suc t)) (from-length es t d (suc t))
+  where
+    by-test : (b : Bool) → length (stretchesFrom first e (suc t) es) ≤ 33 + 33 * length es → length (stretchesFrom t d (suc t) es) ≤ 33 + 33 * length es
+        → length (cond b (stretchesFrom first e (suc t) es) (stretch first t e ++ stretchesFrom t d (suc t) es)) ≤ 33 + 33 * suc (length es)
+    by-test true p q = omega arith
+    by-test false p q = simp length-append (omega (arith, stretch-length first t e))
+
+pub stretches-length : (es : List ℕ) → length (stretches es) ≤ 33 * length es
+unfolding stretches
+stretches-length [] = omega arith
+stretches-length (e ∷ es) = omega (arith, from-length es 0 e 1)

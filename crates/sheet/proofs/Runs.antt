@@ -1,25 +1,31 @@
 -- Laws of what is printed of a run: the lines of its jobs, and the whole.
 use Prim.Native.Nat.{_*_, _+_, _<_, suc, zero, ℕ, _≤_}
-use mathlib.Core.List.{List, [], _++_}
+use mathlib.Core.List.{List, _++_}
+use mathlib.Core.Logic.{_⊎_}
 use mathlib.Core.Path.{ap, sym, _∙_, _≡_}
 use native.Mathlib.Numerals.{add-one}
 use native.Mathlib.Omega.{arith}
 use lib.ListN.{length, length-append}
+use Rattle.zsrm.specs.declared.answers.Outcome.the-variants.{Done, Refused}
+use Rattle.zsrm.specs.declared.answers.Ran.{Ran}
 use Rattle.zsrm.specs.declared.answers.Verdict.{Verdict}
 use Rattle.zsrm.specs.declared.record.Record.{Record}
 use Rattle.zsrm.specs.declared.record.Standing.{Standing}
 use Rattle.zsrm.specs.declared.tables.Mode.{Mode}
-use Rattle.zsrm.specs.Answers.{checkGiven, given, verdictAnswer}
-use Rattle.zsrm.specs.Record.{standingAt}
-use Rattle.zsrm.specs.Refusals.{checkLists, checkTasks}
+use Rattle.zsrm.specs.Answers.{checkGiven, checkSchedule, given, runAnswer, runSchedule, verdictAnswer}
+use Rattle.zsrm.specs.Record.{consistent, standingAt}
+use Rattle.zsrm.specs.Refusals.{before, check9, checkLists, checkTasks}
+use Rattle.zsrm.specs.Run.{runEntries, runRecord}
 use Rattle.zsrm.specs.Tables.{Given, jobCount}
 use Rattle.zsrm.specs.Verdict.{verdict}
 use Rattle.zsrm.proofs.Laws.Accepted.{few-jobs}
-use Rattle.zsrm.proofs.Laws.Answers.{verdict-answered}
+use Rattle.zsrm.proofs.Laws.Answers.{accepted, accepted-lists, run-given, run-outcome, schedule-checked, unless-done, unless-refused, verdict-answered}
+use Rattle.zsrm.proofs.Laws.Promises.{ran-consistent}
 use Rattle.zsrm.proofs.Laws.Refusals.{before-second}
-use Rattle.sheet.specs.Listing.{jobLine, jobLines, judgedLine}
+use Rattle.zsrm.proofs.Laws.Run.{length-run}
+use Rattle.sheet.specs.Listing.{givenListing, jobLine, jobLines, judgedLine, refusedLine, runLine, runListing, stretches}
 use Rattle.sheet.specs.Wrote.{Judged, Wrote}
-use Rattle.sheet.proofs.Lines.{job-length, wrote-more}
+use Rattle.sheet.proofs.Lines.{head-length, job-length, stretches-length, wrote-length, wrote-more}
 
 module _ {mode : Mode} {tasks jobs : List ℕ} {r : Record} (w : Judged mode tasks jobs r) where
   pub few : jobCount jobs ≤ 64
@@ -43,3 +49,50 @@ module _ (g : Given) (r : Record) where
   unfolding jobLines jobLine
   jobs-length zero = omega arith
   jobs-length (suc n) = simp length-append (omega (arith, jobs-length n, job-length n (verdict g r n) (standingAt r n)))
+
+-- 600,000 bytes are room enough: 17 for line 1, 33 for each of 16,384 ticks, 32 for each of 64 jobs
+module _ (mode : Mode) (horizon : ℕ) (es : List ℕ) (few : length es ≤ 16384) {l m : List ℕ} {k : ℕ} (room : 600000 ≤ length l) (v : Wrote l 0 (runLine mode horizon) m k) where
+  pub room-stretches : k + 33 * length es ≤ length m
+  room-stretches = omega (arith, v .next-is, wrote-length v, head-length mode horizon)
+
+  pub room-jobs : {n : List ℕ} {i : ℕ} → Wrote m k (stretches es) n i → (j : ℕ) → j ≤ 64 → i + 32 * j ≤ length n
+  room-jobs w j h =
+      omega (arith, v .next-is, wrote-length v, head-length mode horizon, w .next-is, wrote-length w, stretches-length es)
+
+-- what the library's run answers, and what is printed for it
+module _ (g : Given) (horizon : ℕ) (lent : List ℕ) {r : Ran} (is : r ≡ runAnswer g horizon lent) where
+  checked : r .outcome ≡ checkSchedule g horizon lent
+  checked = ap (λ (x : Ran). x .outcome) is ∙ run-outcome g horizon lent
+
+  module _ (done : r .outcome ≡ Done) where
+    accepts : checkSchedule g horizon lent ≡ Done
+    accepts = sym checked ∙ done
+
+    recorded : r .«record» ≡ runRecord g horizon
+    recorded = ap (λ (x : Ran). x .«record») is ∙ run-given g horizon lent accepts .0
+
+    pub ran-judged : Judged (g .mode) (g .tasks) (g .jobs) (r .«record»)
+    ran-judged =
+        record {
+          lists = accepted-lists g horizon lent (accepted g horizon lent accepts);
+          sound = ap (λ (x : Ran). consistent g (x .«record»)) is ∙ ran-consistent g horizon lent accepts;
+        }
+
+    module _ {es : List ℕ} (writes : es ≡ runSchedule g horizon lent) where
+      wrote-entries : es ≡ runEntries g horizon
+      wrote-entries = writes ∙ run-given g horizon lent accepts .1
+
+      pub ran-short : length es ≤ 16384
+      ran-short = omega (arith, ap length wrote-entries, length-run g horizon, accepted g horizon lent accepts .bounded)
+
+      pub ran-listing : (length lent ≡ horizon) ⊎ (16384 < horizon)
+          → runLine (g .mode) horizon ++ (stretches es ++ jobLines g (r .«record») (jobCount (g .jobs))) ≡ givenListing g horizon
+      unfolding givenListing runListing
+      ran-listing fits =
+          let e = unless-done refusedLine (runListing g horizon) (before (checkGiven g) (check9 horizon)) (sym (schedule-checked g horizon lent fits) ∙ accepts) in
+          rw (e, wrote-entries, recorded)
+
+  pub refused-listing : (number place : ℕ) → r .outcome ≡ Refused number place → (length lent ≡ horizon) ⊎ (16384 < horizon) → refusedLine number place ≡ givenListing g horizon
+  unfolding givenListing
+  refused-listing number place e fits =
+      sym (unless-refused refusedLine (runListing g horizon) (before (checkGiven g) (check9 horizon)) number place (sym (schedule-checked g horizon lent fits) ∙ sym checked ∙ e))

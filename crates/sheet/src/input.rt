@@ -8,7 +8,7 @@ use decimal::Number;
 use zsrm::Mode;
 
 // What an input text says; where it is malformed, not formed, and every number in it is 0.
-pub struct Sheet {
+pub(crate) struct Sheet {
     pub formed: bool,
     pub mode: Mode,
     pub horizon: u32,
@@ -138,7 +138,7 @@ fn nothing() -> Sheet
 }
 
 // What the text says.
-pub fn parse(text: &[u8]) -> Sheet
+pub(crate) fn parse(text: &[u8]) -> Sheet
     ensures { λ r. ⌜ r ≡ sheetOf (now (text .entry)) ⌝ }
 {
     let Head::Heading(letter, horizon, t, j, a) = first_line(text) else {

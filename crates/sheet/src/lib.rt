@@ -1,6 +1,62 @@
 // The program's text: the input read, the listing written. Document 01, "The listing", stands as definitions in specs/.
+ghost use mathlib.Core.List.{_++_};
+ghost use mathlib.Core.Logic.{_⊎_};
+ghost use mathlib.Core.Path.{_≡_};
+ghost use Prim.Native.Nat.{_≤_, _<_};
+ghost use lib.ListN.{length};
+ghost use Rattle.zsrm.specs.Tables.{jobCount};
+ghost use Rattle.zsrm.specs.Answers.{given};
+ghost use Rattle.sheet.specs.Listing.{givenListing, jobLines, listing, runLine, stretches};
+ghost use Rattle.sheet.specs.Wrote.{Judged, Wrote};
+use input::parse;
+use output::put_head;
+use output::put_jobs;
+use output::put_refused;
+use output::put_stretches;
+use zsrm::Mode;
+use zsrm::Outcome;
+use zsrm::Record;
+
 mod input;
 mod output;
 
-pub use input::Sheet;
-pub use input::parse;
+// What is printed of a run: line 1, the stretches, the jobs.
+fn put_run(
+    out: &mut [u8],
+    mode: Mode,
+    tasks: &[u32],
+    jobs: &[u32],
+    horizon: u32,
+    schedule: &[u16],
+    rec: Record,
+) -> usize
+    requires { ⌜ Judged mode (now tasks) (now jobs) rec ⌝ }
+    requires { ⌜ (length (now schedule) ≤ 16384) × (600000 ≤ length (now out)) ⌝ }
+    ensures { λ r. ⌜ Wrote (now (out .entry)) 0 (runLine mode horizon ++ (stretches (now (schedule .entry)) ++ jobLines (given mode (now (tasks .entry)) (now (jobs .entry))) rec (jobCount (now (jobs .entry))))) (now (out .exit)) r ⌝ }
+{
+    let a = put_head(out, 0, mode, horizon);
+    let b = put_stretches(out, a, schedule);
+    put_jobs(out, b, rec, mode, tasks, jobs)
+}
+
+// What is printed for lists: the one refusal, or the run. The schedule is as long as the horizon, unless that is refused.
+fn put_given(
+    out: &mut [u8],
+    mode: Mode,
+    tasks: &[u32],
+    jobs: &[u32],
+    horizon: u32,
+    schedule: &mut [u16],
+) -> usize
+    requires { ⌜ (length (now schedule) ≡ horizon) ⊎ (16384 < horizon) ⌝ }
+    requires { ⌜ 600000 ≤ length (now out) ⌝ }
+    ensures { λ r. ⌜ Wrote (now (out .entry)) 0 (givenListing (given mode (now (tasks .entry)) (now (jobs .entry))) horizon) (now (out .exit)) r ⌝ }
+{
+    let ran = zsrm::run(mode, tasks, jobs, horizon, schedule);
+    let outcome = ran.outcome;
+    let rec = ran.record;
+    match outcome {
+        Outcome::Done => put_run(out, mode, tasks, jobs, horizon, schedule, rec),
+        Outcome::Refused(number, place) => put_refused(out, 0, number, place),
+    }
+}

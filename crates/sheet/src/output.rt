@@ -202,7 +202,7 @@ fn put_job_at(
 }
 
 // The lines of all jobs.
-fn put_jobs(
+pub(crate) fn put_jobs(
     out: &mut [u8],
     at: usize,
     rec: Record,

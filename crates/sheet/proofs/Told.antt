@@ -1,0 +1,103 @@
+-- What a sheet says of the text that it was read from: its lists stand at the front of their rooms, and nothing is cut off.
+use Prim.Native.Nat.{_*_, _+_, _/_, ℕ, _≤_}
+use mathlib.Core.Bool.{Bool, _&&_, cond, false, true}
+use mathlib.Core.List.{_++_, List}
+use mathlib.Core.Path.{ap, refl, sym, _∙_, _≡_}
+use native.Mathlib.Omega.{arith}
+use lib.Dec.{eqb, leb}
+use lib.ListN.{drop, getD, length, take}
+use lib.Seq.{sets, sets-eq, take-at}
+use Rattle.decimal.specs.declared.Number.{Number}
+use Rattle.decimal.specs.declared.Number.the-variants.{Malformed, Value}
+use Rattle.sheet.specs.declared.input.Head.{Head}
+use Rattle.sheet.specs.declared.input.Head.the-variants.{Heading, NoHead}
+use Rattle.sheet.specs.declared.input.Sheet.{Sheet}
+use Rattle.sheet.specs.Grammar.{Numbers, Parsed, asSheet, bad, fieldAt, firstLine, got, isMode, malformed, modeOf, noJobs, noTasks, nothing, numbersFrom, parsed, parsedOf, sheetOf, withHead, withNumber, withNumbers}
+use Rattle.sheet.specs.Reads.{Few}
+use Rattle.sheet.proofs.Numbers.{got-length}
+use Rattle.sheet.proofs.Sheets.{counts-few, room-jobs, room-tasks}
+
+-- whole lines: seven numbers for each of at most 16 tasks, three for each of at most 64 jobs
+pub record Whole (table list : List ℕ) : Type 0 where
+  pub tasks : length table / 7 * 7 ≡ length table
+  pub jobs : length list / 3 * 3 ≡ length list
+  pub few-tasks : length table ≤ 112
+  pub few-jobs : length list ≤ 192
+
+abbrev Sized : Parsed → Type 0
+Sized (parsed mode horizon table list) = Whole table list
+Sized malformed = Unit {0}
+
+few-number : (x : Number) (rest : ℕ → ℕ → Head) → ((v k : ℕ) → Few (rest v k)) → Few (withNumber x rest)
+few-number (Value v k) rest h = h v k
+few-number Malformed rest h = tt
+
+few-cond : (b : Bool) (x : Head) → (b ≡ true → Few x) → Few (cond b x NoHead)
+few-cond true x h = h refl
+few-cond false x h = tt
+
+first-few : (s : List ℕ) → Few (firstLine s)
+unfolding firstLine
+first-few s =
+    few-cond (isMode (getD s 0 256) && eqb (getD s 1 256) 32) _
+    (λ _. few-number (fieldAt s 2 32) _
+    (λ h a. few-number (fieldAt s a 32) _
+    (λ t b. few-number (fieldAt s b 10) _ (λ j e. few-cond (leb t 16 && leb j 64) _ (counts-few t j)))))
+
+sized-head : (x : Head) (rest : ℕ → ℕ → ℕ → ℕ → ℕ → Parsed) → Few x → ((letter h t j a : ℕ) → t ≤ 16 → j ≤ 64 → Sized (rest letter h t j a)) → Sized (withHead x rest)
+sized-head (Heading letter h t j a) rest few go = go letter h t j a (few .0) (few .1)
+sized-head NoHead rest few go = tt
+
+sized-numbers : (x : Numbers) (rest : List ℕ → ℕ → Parsed) → ((vs : List ℕ) (k : ℕ) → x ≡ got vs k → Sized (rest vs k)) → Sized (withNumbers x rest)
+sized-numbers (got vs k) rest go = go vs k refl
+sized-numbers bad rest go = tt
+
+sized-cond : (b : Bool) (x : Parsed) → Sized x → Sized (cond b x malformed)
+sized-cond true x h = h
+sized-cond false x h = tt
+
+sized : (s : List ℕ) → Sized (parsedOf s)
+unfolding parsedOf
+sized s =
+    sized-head (firstLine s) _ (first-few s)
+    (λ letter h t j a few-t few-j. sized-numbers (numbersFrom s 7 0 (t * 7) a) _
+    (λ ts b p. sized-numbers (numbersFrom s 3 0 (j * 3) b) _
+    (λ js e q. sized-cond (eqb e (length s)) (parsed (modeOf letter) h ts js)
+    (let x = got-length s 7 0 (t * 7) a ts b p in
+    let y = got-length s 3 0 (j * 3) b js e q in
+    record { tasks = omega arith; jobs = omega arith; few-tasks = omega arith; few-jobs = omega arith }))))
+
+-- what was stored at the front of a room
+pub front : (l vs : List ℕ) (n : ℕ) → n ≡ length vs → length vs ≤ length l → take n (sets l 0 vs) ≡ vs
+front l vs n e h = rw (sets-eq vs l 0 (omega arith)) (take-at vs (drop (0 + length vs) l) n (sym e))
+
+-- a sheet that is formed, and what it says
+pub record Told (s : List ℕ) (sheet : Sheet) : Type 0 where
+  pub says : parsedOf s ≡ parsed (sheet .mode) (sheet .horizon) (take (sheet .tasks * 7) (sheet .table)) (take (sheet .jobs * 3) (sheet .list))
+  pub tasks-fit : sheet .tasks * 7 ≤ 112
+  pub jobs-fit : sheet .jobs * 3 ≤ 192
+
+told-by : (s : List ℕ) (p : Parsed) → parsedOf s ≡ p → Sized p → asSheet p .formed ≡ true → Told s (asSheet p)
+unfolding nothing
+told-by s (parsed mode horizon table list) e w f =
+    let t : take (length table / 7 * 7) (sets noTasks 0 table) ≡ table = front noTasks table _ (w .tasks) (omega (arith, room-tasks {l = noTasks} refl, w .few-tasks)) in
+    let j : take (length list / 3 * 3) (sets noJobs 0 list) ≡ list = front noJobs list _ (w .jobs) (omega (arith, room-jobs {l = noJobs} refl, w .few-jobs)) in
+    record {
+      says = rw (t, j) e;
+      tasks-fit = omega (arith, w .tasks, w .few-tasks);
+      jobs-fit = omega (arith, w .jobs, w .few-jobs);
+    }
+told-by s malformed e w f = let z : _≡_ {A = ℕ} 0 1 = cc in absurd (omega arith)
+
+unformed-by : (p : Parsed) → asSheet p .formed ≡ false → p ≡ malformed
+unformed-by (parsed mode horizon table list) f = let z : _≡_ {A = ℕ} 0 1 = cc in absurd (omega arith)
+unformed-by malformed f = refl
+
+module _ (s : List ℕ) {sheet : Sheet} (is : sheet ≡ sheetOf s) where
+  pub told : sheet .formed ≡ true → Told s sheet
+  unfolding sheetOf
+  told f = rw is (told-by s (parsedOf s) refl (sized s) (rw is at f))
+
+  pub unformed : sheet .formed ≡ false → parsedOf s ≡ malformed
+  unfolding sheetOf
+  unformed f = unformed-by (parsedOf s) (rw is at f)
