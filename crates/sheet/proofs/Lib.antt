@@ -4,3 +4,4 @@ pub mod Example
 pub mod Lines
 pub mod Runs
 pub mod Told
+pub mod Listings

@@ -2,17 +2,19 @@
 use Prim.Native.Nat.{_*_, _+_, _<_, suc, zero, ℕ, _≤_}
 use mathlib.Core.List.{List, _++_}
 use mathlib.Core.Logic.{_⊎_}
-use mathlib.Core.Path.{ap, sym, _∙_, _≡_}
+use mathlib.Core.Path.{ap, refl, sym, _∙_, _≡_}
 use native.Mathlib.Numerals.{add-one}
 use native.Mathlib.Omega.{arith}
 use lib.ListN.{length, length-append}
+use borrow.Author.Tests.{ltb-false}
+use Rattle.zsrm.specs.declared.answers.Outcome.{Outcome}
 use Rattle.zsrm.specs.declared.answers.Outcome.the-variants.{Done, Refused}
 use Rattle.zsrm.specs.declared.answers.Ran.{Ran}
 use Rattle.zsrm.specs.declared.answers.Verdict.{Verdict}
 use Rattle.zsrm.specs.declared.record.Record.{Record}
 use Rattle.zsrm.specs.declared.record.Standing.{Standing}
 use Rattle.zsrm.specs.declared.tables.Mode.{Mode}
-use Rattle.zsrm.specs.Answers.{checkGiven, checkSchedule, given, runAnswer, runSchedule, verdictAnswer}
+use Rattle.zsrm.specs.Answers.{checkGiven, checkSchedule, given, runAnswer, runSchedule, unless, verdictAnswer}
 use Rattle.zsrm.specs.Record.{consistent, standingAt}
 use Rattle.zsrm.specs.Refusals.{before, check9, checkLists, checkTasks}
 use Rattle.zsrm.specs.Run.{runEntries, runRecord}
@@ -21,11 +23,11 @@ use Rattle.zsrm.specs.Verdict.{verdict}
 use Rattle.zsrm.proofs.Laws.Accepted.{few-jobs}
 use Rattle.zsrm.proofs.Laws.Answers.{accepted, accepted-lists, run-given, run-outcome, schedule-checked, unless-done, unless-refused, verdict-answered}
 use Rattle.zsrm.proofs.Laws.Promises.{ran-consistent}
-use Rattle.zsrm.proofs.Laws.Refusals.{before-second}
+use Rattle.zsrm.proofs.Laws.Refusals.{before-first, before-second, refuse-fine}
 use Rattle.zsrm.proofs.Laws.Run.{length-run}
-use Rattle.sheet.specs.Listing.{givenListing, jobLine, jobLines, judgedLine, refusedLine, runLine, runListing, stretches}
+use Rattle.sheet.specs.Listing.{behindFirst, givenListing, jobLine, jobLines, judgedLine, line, refusedLine, runLine, runListing, stretches}
 use Rattle.sheet.specs.Wrote.{Judged, Wrote}
-use Rattle.sheet.proofs.Lines.{head-length, job-length, stretches-length, wrote-length, wrote-more}
+use Rattle.sheet.proofs.Lines.{decimal-length, head-length, job-length, stretches-length, wrote-length, wrote-more}
 
 module _ {mode : Mode} {tasks jobs : List ℕ} {r : Record} (w : Judged mode tasks jobs r) where
   pub few : jobCount jobs ≤ 64
@@ -96,3 +98,24 @@ module _ (g : Given) (horizon : ℕ) (lent : List ℕ) {r : Ran} (is : r ≡ run
   unfolding givenListing
   refused-listing number place e fits =
       sym (unless-refused refusedLine (runListing g horizon) (before (checkGiven g) (check9 horizon)) number place (sym (schedule-checked g horizon lent fits) ∙ sym checked ∙ e))
+
+-- how long a listing is
+pub refused-length : (number place : ℕ) → length (refusedLine number place) ≤ 30
+unfolding refusedLine line behindFirst
+refused-length number place = simp length-append (omega (arith, decimal-length number, decimal-length place))
+
+run-length : (g : Given) (horizon : ℕ) → horizon ≤ 16384 → jobCount (g .jobs) ≤ 64 → length (runListing g horizon) ≤ 542737
+unfolding runListing
+run-length g horizon h j =
+    simp length-append
+    (omega (arith, head-length (g .mode) horizon, stretches-length (runEntries g horizon), length-run g horizon, jobs-length g (runRecord g horizon) (jobCount (g .jobs))))
+
+pub given-length : (g : Given) (horizon : ℕ) → length (givenListing g horizon) ≤ 542737
+unfolding givenListing unless check9 checkGiven checkLists
+given-length g horizon = by-check (before (checkLists (g .tasks) (g .jobs)) (check9 horizon)) refl
+  where
+    by-check : (o : Outcome) → before (checkLists (g .tasks) (g .jobs)) (check9 horizon) ≡ o → length (unless o refusedLine (runListing g horizon)) ≤ 542737
+    by-check Done e =
+        run-length g horizon (ltb-false 16384 horizon (refuse-fine _ _ _ (before-second (checkLists (g .tasks) (g .jobs)) _ e)))
+        (few-jobs (g .tasks) (g .jobs) (before-second (checkTasks (g .tasks)) _ (before-first (checkLists (g .tasks) (g .jobs)) _ e)))
+    by-check (Refused number place) e = omega (arith, refused-length number place)

@@ -6,7 +6,7 @@ use mathlib.Core.Path.{ap, refl, sym, _∙_, _≡_}
 use native.Mathlib.Omega.{arith}
 use lib.Dec.{eqb, leb}
 use lib.ListN.{drop, getD, length, take}
-use lib.Seq.{sets, sets-eq, take-at}
+use lib.Seq.{length-sets, sets, sets-eq, take-at}
 use Rattle.decimal.specs.declared.Number.{Number}
 use Rattle.decimal.specs.declared.Number.the-variants.{Malformed, Value}
 use Rattle.sheet.specs.declared.input.Head.{Head}
@@ -74,8 +74,10 @@ front l vs n e h = rw (sets-eq vs l 0 (omega arith)) (take-at vs (drop (0 + leng
 -- a sheet that is formed, and what it says
 pub record Told (s : List ℕ) (sheet : Sheet) : Type 0 where
   pub says : parsedOf s ≡ parsed (sheet .mode) (sheet .horizon) (take (sheet .tasks * 7) (sheet .table)) (take (sheet .jobs * 3) (sheet .list))
-  pub tasks-fit : sheet .tasks * 7 ≤ 112
-  pub jobs-fit : sheet .jobs * 3 ≤ 192
+  pub few-tasks : sheet .tasks * 7 ≤ 112
+  pub few-jobs : sheet .jobs * 3 ≤ 192
+  pub tasks-fit : sheet .tasks * 7 ≤ length (sheet .table)
+  pub jobs-fit : sheet .jobs * 3 ≤ length (sheet .list)
 
 told-by : (s : List ℕ) (p : Parsed) → parsedOf s ≡ p → Sized p → asSheet p .formed ≡ true → Told s (asSheet p)
 unfolding nothing
@@ -84,8 +86,10 @@ told-by s (parsed mode horizon table list) e w f =
     let j : take (length list / 3 * 3) (sets noJobs 0 list) ≡ list = front noJobs list _ (w .jobs) (omega (arith, room-jobs {l = noJobs} refl, w .few-jobs)) in
     record {
       says = rw (t, j) e;
-      tasks-fit = omega (arith, w .tasks, w .few-tasks);
-      jobs-fit = omega (arith, w .jobs, w .few-jobs);
+      few-tasks = omega (arith, w .tasks, w .few-tasks);
+      few-jobs = omega (arith, w .jobs, w .few-jobs);
+      tasks-fit = omega (arith, w .tasks, w .few-tasks, room-tasks {l = noTasks} refl, length-sets noTasks 0 table);
+      jobs-fit = omega (arith, w .jobs, w .few-jobs, room-jobs {l = noJobs} refl, length-sets noJobs 0 list);
     }
 told-by s malformed e w f = let z : _≡_ {A = ℕ} 0 1 = cc in absurd (omega arith)
 

@@ -60,3 +60,44 @@ fn put_given(
         Outcome::Refused(number, place) => put_refused(out, 0, number, place),
     }
 }
+
+// How many ticks a run of this horizon has; none where the horizon is refused.
+fn ticks(horizon: u32) -> usize
+    ensures { λ r. ⌜ (r ≤ 16384) × ((r ≡ horizon) ⊎ (16384 < horizon)) ⌝ }
+{
+    if 16384 < horizon { 0 } else { horizon as usize }
+}
+
+// Room for a schedule of any horizon.
+fn no_entries() -> [u16; 16384]
+    ensures { λ r. ⌜ length r ≡ 16384 ⌝ }
+{
+    [0u16; 16384]
+}
+
+// What is printed for a text that is well formed.
+fn put_sheet(out: &mut [u8], mode: Mode, tasks: &[u32], jobs: &[u32], horizon: u32) -> usize
+    requires { ⌜ 600000 ≤ length (now out) ⌝ }
+    ensures { λ r. ⌜ Wrote (now (out .entry)) 0 (givenListing (given mode (now (tasks .entry)) (now (jobs .entry))) horizon) (now (out .exit)) r ⌝ }
+{
+    let mut entries = no_entries();
+    let n = ticks(horizon);
+    put_given(out, mode, tasks, jobs, horizon, &mut entries[..n])
+}
+
+// The listing of an input text, written at the front of `out`, every other byte as it was; how many bytes it has. There is room for any.
+pub fn listing(input: &[u8], out: &mut [u8; 600000]) -> usize
+    ensures writes { λ r. ⌜ Wrote (now (out .entry)) 0 (listing (now (input .entry))) (now (out .exit)) r ⌝ }
+    ensures fits { λ r. ⌜ r ≤ 600000 ⌝ }
+{
+    let sheet = parse(input);
+    if !sheet.formed {
+        return put_refused(out, 0, 14, 0);
+    }
+    let table = sheet.table;
+    let list = sheet.list;
+    let n = sheet.tasks * 7;
+    let m = sheet.jobs * 3;
+    let mode = sheet.mode;
+    put_sheet(out, mode, &table[..n], &list[..m], sheet.horizon)
+}
