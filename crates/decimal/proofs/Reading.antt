@@ -1,15 +1,15 @@
 -- Laws of reading: the digits before a position and those from it on.
 use Prim.Native.Nat.{_*_, _+_, _-_, _<_, _^_, suc, zero, ℕ, _≤_}
-use mathlib.Core.Bool.{false, true}
+use mathlib.Core.Bool.{Bool, _&&_, cond, false, true}
 use mathlib.Core.List.{List, [], _∷_}
 use mathlib.Core.Path.{ap, refl, _∙_, _≡_}
 use native.Mathlib.Nat.{pow-le-pow-right, pow-suc}
 use native.Mathlib.Numerals.{add-one}
 use native.Mathlib.Omega.{arith}
-use lib.Dec.{lit<}
+use lib.Dec.{leb, lit<}
 use lib.ListN.{drop, getD, length}
 use lib.Seq.{drop-nil}
-use borrow.Author.Tests.{le-leb, lt-leb}
+use borrow.Author.Tests.{le-leb, leb-true, lt-leb}
 use Rattle.decimal.specs.declared.Number.the-variants.{Malformed, Value}
 use Rattle.decimal.specs.Decimal.{isDigit, judged, numberAt, run, spelled}
 
@@ -112,3 +112,15 @@ module _ {s : List ℕ} {at value n k : ℕ} (r : Read s at value n k) where
       let c′ = ap length m in
       let none : length (run (drop at s)) < 1 = omega arith in
       rw (lt-leb _ _ none)
+
+-- a number ends after at most 5 digits
+pub number-ends : (s : List ℕ) (at v k : ℕ) → numberAt s at ≡ Value v k → k ≤ at + 5
+unfolding numberAt judged
+number-ends s at v k = by-test (run (drop at s)) (leb 1 (length (run (drop at s)))) (leb (length (run (drop at s))) 5) refl
+  where
+    by-test : (ds : List ℕ) (some few : Bool) → leb (length ds) 5 ≡ few → cond (some && few) (Value (spelled 0 ds) (at + length ds)) Malformed ≡ Value v k → k ≤ at + 5
+    by-test ds true true q e =
+        let p : at + length ds ≡ k = cc in
+        omega (arith, leb-true (length ds) 5 q)
+    by-test ds true false q e = let z : _≡_ {A = ℕ} 0 1 = cc in absurd (omega arith)
+    by-test ds false few q e = let z : _≡_ {A = ℕ} 0 1 = cc in absurd (omega arith)

@@ -1,16 +1,19 @@
 -- What is printed for a text, malformed or not, and that 542,737 bytes are room for any listing.
-use Prim.Native.Nat.{ℕ, _*_, _≤_}
+use Prim.Native.Nat.{ℕ, _*_, _<_, _≤_}
 use mathlib.Core.List.{List}
-use mathlib.Core.Path.{sym, _≡_}
+use mathlib.Core.Path.{ap, sym, _∙_, _≡_}
 use native.Mathlib.Omega.{arith}
+use native.Mathlib.Decide.{decLe}
 use lib.ListN.{length, take}
+use lib.Seq.{length-take-le, take-all}
 use Rattle.zsrm.specs.Answers.{given}
 use Rattle.sheet.specs.declared.input.Sheet.{Sheet}
 use Rattle.sheet.specs.Grammar.{Parsed, malformed, parsed, parsedOf}
 use Rattle.sheet.specs.Listing.{givenListing, listing, parsedListing, refusedLine}
 use Rattle.sheet.specs.Wrote.{Wrote}
+use Rattle.sheet.proofs.Lines.{wrote-length}
 use Rattle.sheet.proofs.Runs.{given-length, refused-length}
-use Rattle.sheet.proofs.Told.{Told}
+use Rattle.sheet.proofs.Told.{Told, long}
 
 pub listing-malformed : (s : List ℕ) → parsedOf s ≡ malformed → refusedLine 14 0 ≡ listing s
 unfolding listing
@@ -30,5 +33,16 @@ unfolding listing
 listing-length s = parsed-length (parsedOf s)
 
 -- the position after a listing, which stands at the front
-pub listing-fits : (s : List ℕ) {l m : List ℕ} {k : ℕ} → Wrote l 0 (listing s) m k → k ≤ 600000
-listing-fits s w = omega (arith, w .next-is, listing-length s)
+pub listing-fits : (s : List ℕ) {l m : List ℕ} {k : ℕ} → 600000 ≤ length l → Wrote l 0 (listing s) m k → k ≤ length m
+listing-fits s h w = omega (arith, w .next-is, wrote-length w, listing-length s)
+
+-- The listing is that of the text's first 1,845 bytes: one more than the longest well-formed text has. So nothing more need be read.
+pub first-bytes-decide : (s : List ℕ) → listing (take 1845 s) ≡ listing s
+first-bytes-decide s = by-length (decLe (length s) 1845)
+  where
+    by-length : Dec (length s ≤ 1845) → listing (take 1845 s) ≡ listing s
+    by-length (yes h) = ap listing (take-all 1845 s h)
+    by-length (no h) =
+        let more : 1845 < length s = omega arith in
+        let cut = length-take-le 1845 s (omega arith) in
+        sym (listing-malformed (take 1845 s) (long (take 1845 s) (omega arith))) ∙ listing-malformed s (long s (omega arith))

@@ -1,5 +1,5 @@
 -- Laws of the fields and of the numbers in lines: what has been read so far, and what is left.
-use Prim.Native.Nat.{ℕ, zero, suc, _+_, _-_, _%_, _≤_, _<_}
+use Prim.Native.Nat.{ℕ, zero, suc, _+_, _-_, _*_, _%_, _≤_, _<_}
 use mathlib.Core.Path.{_≡_, refl, sym, ap, _∙_}
 use mathlib.Core.List.{List, [], _∷_, _++_, append-assoc, append-nil}
 use mathlib.Core.Bool.{Bool, true, false, cond}
@@ -13,9 +13,10 @@ use borrow.Author.Tests.{eq-eqb, ne-eqb}
 use Rattle.decimal.specs.declared.Number.{Number}
 use Rattle.decimal.specs.declared.Number.the-variants.{Value, Malformed}
 use Rattle.decimal.specs.Decimal.{numberAt}
+use Rattle.decimal.proofs.Reading.{number-ends}
 use Rattle.sheet.specs.declared.input.Next.{Next}
 use Rattle.sheet.specs.declared.input.Next.the-variants.{At, Broken}
-use Rattle.sheet.specs.Grammar.{fieldAt, endOf, Numbers, got, bad, behind, andThen, numbersFrom}
+use Rattle.sheet.specs.Grammar.{endedBy, fieldAt, endOf, Numbers, got, bad, behind, andThen, numbersFrom}
 use Rattle.sheet.specs.Reads.{NumbersAre}
 
 module _ (s : List ℕ) (at end v k : ℕ) (p : numberAt s at ≡ Value v k) where
@@ -127,20 +128,46 @@ unfolding NumbersAre
 numbers-broken (got vs j) r l m a e = let z : _≡_ {A = ℕ} 0 1 = cc (a .0, e) in absurd (omega arith)
 numbers-broken bad r l m a e = refl
 
-behind-length : (f : Numbers) (v k n : ℕ) (vs : List ℕ) → behind v f ≡ got vs k → ((ws : List ℕ) (j : ℕ) → f ≡ got ws j → length ws ≡ n) → length vs ≡ suc n
-behind-length (got ws j) v k n vs e h =
-    let q : vs ≡ v ∷ ws = cc in
-    let l = h ws j refl in
-    rw q (omega arith)
-behind-length bad v k n vs e h = let z : _≡_ {A = ℕ} 0 1 = cc in absurd (omega arith)
+-- numbers that were read: the first of them, and those behind it
+behind-got : (f : Numbers) (v k : ℕ) (vs : List ℕ) → behind v f ≡ got vs k → (ws : List ℕ) × (f ≡ got ws k) × (vs ≡ v ∷ ws)
+behind-got (got ws j) v k vs e =
+    let q : j ≡ k = cc in
+    (ws, ap (got ws) q, cc)
+behind-got bad v k vs e = let z : _≡_ {A = ℕ} 0 1 = cc in absurd (omega arith)
 
-then-length : (x : Number) (f : ℕ → Numbers) (k n : ℕ) (vs : List ℕ) → andThen x f ≡ got vs k → ((i : ℕ) (ws : List ℕ) (j : ℕ) → f i ≡ got ws j → length ws ≡ n)
-    → length vs ≡ suc n
-then-length (Value v i) f k n vs e h = behind-length (f i) v k n vs e (h i)
-then-length Malformed f k n vs e h = let z : _≡_ {A = ℕ} 0 1 = cc in absurd (omega arith)
+then-got : (x : Number) (f : ℕ → Numbers) (k : ℕ) (vs : List ℕ) → andThen x f ≡ got vs k
+    → (v : ℕ) × (i : ℕ) × (ws : List ℕ) × (x ≡ Value v i) × (f i ≡ got ws k) × (vs ≡ v ∷ ws)
+then-got (Value v i) f k vs e =
+    let w = behind-got (f i) v k vs e in
+    (v, i, w .0, refl, w .1, w .2)
+then-got Malformed f k vs e = let z : _≡_ {A = ℕ} 0 1 = cc in absurd (omega arith)
 
 pub got-length : (s : List ℕ) (per i n at : ℕ) (vs : List ℕ) (k : ℕ) → numbersFrom s per i n at ≡ got vs k → length vs ≡ n
 unfolding numbersFrom
 got-length s per i zero at vs k e = let q : vs ≡ [] = cc in rw q
 got-length s per i (suc n) at vs k e =
-    then-length (fieldAt s at (endOf per i)) (λ j. numbersFrom s per (suc i) n j) k n vs e (λ a ws j. got-length s per (suc i) n a ws j)
+    let w = then-got (fieldAt s at (endOf per i)) (λ j. numbersFrom s per (suc i) n j) k vs e in
+    let l = got-length s per (suc i) n (w .1) (w .2) k (w .4) in
+    rw (w .5) (omega arith)
+
+-- a number and the byte behind it are at most 6 bytes
+pub field-ends : (s : List ℕ) (at end v k : ℕ) → fieldAt s at end ≡ Value v k → k ≤ at + 6
+unfolding fieldAt
+field-ends s at end v k = by-number (numberAt s at) refl
+  where
+    by-byte : (b : Bool) (u j : ℕ) → numberAt s at ≡ Value u j → cond b (Value u (j + 1)) Malformed ≡ Value v k → k ≤ at + 6
+    by-byte true u j q e =
+        let p : j + 1 ≡ k = cc in
+        omega (arith, number-ends s at u j q)
+    by-byte false u j q e = let z : _≡_ {A = ℕ} 0 1 = cc in absurd (omega arith)
+
+    by-number : (x : Number) → numberAt s at ≡ x → endedBy s end x ≡ Value v k → k ≤ at + 6
+    by-number (Value u j) q e = by-byte (eqb (getD s j 256) end) u j q e
+    by-number Malformed q e = let z : _≡_ {A = ℕ} 0 1 = cc in absurd (omega arith)
+
+pub got-ends : (s : List ℕ) (per i n at : ℕ) (vs : List ℕ) (k : ℕ) → numbersFrom s per i n at ≡ got vs k → k ≤ at + 6 * n
+unfolding numbersFrom
+got-ends s per i zero at vs k e = let q : at ≡ k = cc in omega arith
+got-ends s per i (suc n) at vs k e =
+    let w = then-got (fieldAt s at (endOf per i)) (λ j. numbersFrom s per (suc i) n j) k vs e in
+    omega (arith, field-ends s at (endOf per i) (w .0) (w .1) (w .3), got-ends s per (suc i) n (w .1) (w .2) k (w .4))

@@ -1,5 +1,5 @@
 -- What a sheet says of the text that it was read from: its lists stand at the front of their rooms, and nothing is cut off.
-use Prim.Native.Nat.{_*_, _+_, _/_, ℕ, _≤_}
+use Prim.Native.Nat.{_*_, _+_, _/_, _<_, ℕ, _≤_}
 use mathlib.Core.Bool.{Bool, _&&_, cond, false, true}
 use mathlib.Core.List.{_++_, List}
 use mathlib.Core.Path.{ap, refl, sym, _∙_, _≡_}
@@ -7,65 +7,85 @@ use native.Mathlib.Omega.{arith}
 use lib.Dec.{eqb, leb}
 use lib.ListN.{drop, getD, length, take}
 use lib.Seq.{length-sets, sets, sets-eq, take-at}
+use borrow.Author.Tests.{eqb-true}
 use Rattle.decimal.specs.declared.Number.{Number}
 use Rattle.decimal.specs.declared.Number.the-variants.{Malformed, Value}
 use Rattle.sheet.specs.declared.input.Head.{Head}
 use Rattle.sheet.specs.declared.input.Head.the-variants.{Heading, NoHead}
 use Rattle.sheet.specs.declared.input.Sheet.{Sheet}
 use Rattle.sheet.specs.Grammar.{Numbers, Parsed, asSheet, bad, fieldAt, firstLine, got, isMode, malformed, modeOf, noJobs, noTasks, nothing, numbersFrom, parsed, parsedOf, sheetOf, withHead, withNumber, withNumbers}
-use Rattle.sheet.specs.Reads.{Few}
-use Rattle.sheet.proofs.Numbers.{got-length}
+use Rattle.sheet.proofs.Numbers.{field-ends, got-ends, got-length}
 use Rattle.sheet.proofs.Sheets.{counts-few, room-jobs, room-tasks}
 
--- whole lines: seven numbers for each of at most 16 tasks, three for each of at most 64 jobs
-pub record Whole (table list : List ℕ) : Type 0 where
+-- whole lines: seven numbers for each of at most 16 tasks, three for each of at most 64 jobs. The longest text has 20 bytes in its first
+-- line, and 6 for each number behind that.
+pub record Whole (s table list : List ℕ) : Type 0 where
   pub tasks : length table / 7 * 7 ≡ length table
   pub jobs : length list / 3 * 3 ≡ length list
   pub few-tasks : length table ≤ 112
   pub few-jobs : length list ≤ 192
+  pub short : length s ≤ 1844
 
-abbrev Sized : Parsed → Type 0
-Sized (parsed mode horizon table list) = Whole table list
-Sized malformed = Unit {0}
+abbrev Sized : List ℕ → Parsed → Type 0
+Sized s (parsed mode horizon table list) = Whole s table list
+Sized s malformed = Unit {0}
 
-few-number : (x : Number) (rest : ℕ → ℕ → Head) → ((v k : ℕ) → Few (rest v k)) → Few (withNumber x rest)
-few-number (Value v k) rest h = h v k
-few-number Malformed rest h = tt
+abbrev Fits : Head → Type 0
+Fits (Heading letter horizon tasks jobs e) = (tasks ≤ 16) × (jobs ≤ 64) × (e ≤ 20)
+Fits NoHead = Unit {0}
 
-few-cond : (b : Bool) (x : Head) → (b ≡ true → Few x) → Few (cond b x NoHead)
-few-cond true x h = h refl
-few-cond false x h = tt
+fits-number : (x : Number) (rest : ℕ → ℕ → Head) → ((v k : ℕ) → x ≡ Value v k → Fits (rest v k)) → Fits (withNumber x rest)
+fits-number (Value v k) rest h = h v k refl
+fits-number Malformed rest h = tt
 
-first-few : (s : List ℕ) → Few (firstLine s)
+fits-cond : (b : Bool) (x : Head) → (b ≡ true → Fits x) → Fits (cond b x NoHead)
+fits-cond true x h = h refl
+fits-cond false x h = tt
+
+first-fits : (s : List ℕ) → Fits (firstLine s)
 unfolding firstLine
-first-few s =
-    few-cond (isMode (getD s 0 256) && eqb (getD s 1 256) 32) _
-    (λ _. few-number (fieldAt s 2 32) _
-    (λ h a. few-number (fieldAt s a 32) _
-    (λ t b. few-number (fieldAt s b 10) _ (λ j e. few-cond (leb t 16 && leb j 64) _ (counts-few t j)))))
+first-fits s =
+    fits-cond (isMode (getD s 0 256) && eqb (getD s 1 256) 32) _
+    (λ _. fits-number (fieldAt s 2 32) _
+    (λ h a p. fits-number (fieldAt s a 32) _
+    (λ t b q. fits-number (fieldAt s b 10) _
+    (λ j e r. fits-cond (leb t 16 && leb j 64) _
+    (λ c.
+    let few = counts-few t j c in
+    (few .0, few .1, omega (arith, field-ends s 2 32 h a p, field-ends s a 32 t b q, field-ends s b 10 j e r)))))))
 
-sized-head : (x : Head) (rest : ℕ → ℕ → ℕ → ℕ → ℕ → Parsed) → Few x → ((letter h t j a : ℕ) → t ≤ 16 → j ≤ 64 → Sized (rest letter h t j a)) → Sized (withHead x rest)
-sized-head (Heading letter h t j a) rest few go = go letter h t j a (few .0) (few .1)
-sized-head NoHead rest few go = tt
+module _ (s : List ℕ) where
+  sized-head : (x : Head) (rest : ℕ → ℕ → ℕ → ℕ → ℕ → Parsed) → Fits x → ((letter h t j a : ℕ) → (t ≤ 16) × (j ≤ 64) × (a ≤ 20) → Sized s (rest letter h t j a)) → Sized s (withHead x rest)
+  sized-head (Heading letter h t j a) rest fits go = go letter h t j a fits
+  sized-head NoHead rest fits go = tt
 
-sized-numbers : (x : Numbers) (rest : List ℕ → ℕ → Parsed) → ((vs : List ℕ) (k : ℕ) → x ≡ got vs k → Sized (rest vs k)) → Sized (withNumbers x rest)
-sized-numbers (got vs k) rest go = go vs k refl
-sized-numbers bad rest go = tt
+  sized-numbers : (x : Numbers) (rest : List ℕ → ℕ → Parsed) → ((vs : List ℕ) (k : ℕ) → x ≡ got vs k → Sized s (rest vs k)) → Sized s (withNumbers x rest)
+  sized-numbers (got vs k) rest go = go vs k refl
+  sized-numbers bad rest go = tt
 
-sized-cond : (b : Bool) (x : Parsed) → Sized x → Sized (cond b x malformed)
-sized-cond true x h = h
-sized-cond false x h = tt
+  sized-cond : (b : Bool) (x : Parsed) → (b ≡ true → Sized s x) → Sized s (cond b x malformed)
+  sized-cond true x h = h refl
+  sized-cond false x h = tt
 
-sized : (s : List ℕ) → Sized (parsedOf s)
-unfolding parsedOf
-sized s =
-    sized-head (firstLine s) _ (first-few s)
-    (λ letter h t j a few-t few-j. sized-numbers (numbersFrom s 7 0 (t * 7) a) _
-    (λ ts b p. sized-numbers (numbersFrom s 3 0 (j * 3) b) _
-    (λ js e q. sized-cond (eqb e (length s)) (parsed (modeOf letter) h ts js)
-    (let x = got-length s 7 0 (t * 7) a ts b p in
-    let y = got-length s 3 0 (j * 3) b js e q in
-    record { tasks = omega arith; jobs = omega arith; few-tasks = omega arith; few-jobs = omega arith }))))
+  sized : Sized s (parsedOf s)
+  unfolding parsedOf
+  sized =
+      sized-head (firstLine s) _ (first-fits s)
+      (λ letter h t j a fits. sized-numbers (numbersFrom s 7 0 (t * 7) a) _
+      (λ ts b p. sized-numbers (numbersFrom s 3 0 (j * 3) b) _
+      (λ js e q. sized-cond (eqb e (length s)) (parsed (modeOf letter) h ts js)
+      (λ c.
+      let few-t = fits .0 in
+      let few-j = fits .1 in
+      let x = got-length s 7 0 (t * 7) a ts b p in
+      let y = got-length s 3 0 (j * 3) b js e q in
+      record {
+        tasks = omega arith;
+        jobs = omega arith;
+        few-tasks = omega arith;
+        few-jobs = omega arith;
+        short = omega (arith, fits .2, eqb-true e (length s) c, got-ends s 7 0 (t * 7) a ts b p, got-ends s 3 0 (j * 3) b js e q);
+      }))))
 
 -- what was stored at the front of a room
 pub front : (l vs : List ℕ) (n : ℕ) → n ≡ length vs → length vs ≤ length l → take n (sets l 0 vs) ≡ vs
@@ -79,7 +99,7 @@ pub record Told (s : List ℕ) (sheet : Sheet) : Type 0 where
   pub tasks-fit : sheet .tasks * 7 ≤ length (sheet .table)
   pub jobs-fit : sheet .jobs * 3 ≤ length (sheet .list)
 
-told-by : (s : List ℕ) (p : Parsed) → parsedOf s ≡ p → Sized p → asSheet p .formed ≡ true → Told s (asSheet p)
+told-by : (s : List ℕ) (p : Parsed) → parsedOf s ≡ p → Sized s p → asSheet p .formed ≡ true → Told s (asSheet p)
 unfolding nothing
 told-by s (parsed mode horizon table list) e w f =
     let t : take (length table / 7 * 7) (sets noTasks 0 table) ≡ table = front noTasks table _ (w .tasks) (omega (arith, room-tasks {l = noTasks} refl, w .few-tasks)) in
@@ -105,3 +125,11 @@ module _ (s : List ℕ) {sheet : Sheet} (is : sheet ≡ sheetOf s) where
   pub unformed : sheet .formed ≡ false → parsedOf s ≡ malformed
   unfolding sheetOf
   unformed f = unformed-by (parsedOf s) (rw is at f)
+
+-- a text of more than 1,844 bytes is malformed
+long-by : (s : List ℕ) (p : Parsed) → Sized s p → 1844 < length s → p ≡ malformed
+long-by s (parsed mode horizon table list) w h = absurd (omega (arith, w .short))
+long-by s malformed w h = refl
+
+pub long : (s : List ℕ) → 1844 < length s → parsedOf s ≡ malformed
+long s h = long-by s (parsedOf s) (sized s) h

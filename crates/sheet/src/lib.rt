@@ -88,7 +88,7 @@ fn put_sheet(out: &mut [u8], mode: Mode, tasks: &[u32], jobs: &[u32], horizon: u
 // The listing of an input text, written at the front of `out`, every other byte as it was; how many bytes it has. There is room for any.
 pub fn listing(input: &[u8], out: &mut [u8; 600000]) -> usize
     ensures writes { λ r. ⌜ Wrote (now (out .entry)) 0 (listing (now (input .entry))) (now (out .exit)) r ⌝ }
-    ensures fits { λ r. ⌜ r ≤ 600000 ⌝ }
+    ensures fits { λ r. ⌜ r ≤ length (now (out .exit)) ⌝ }
 {
     let sheet = parse(input);
     if !sheet.formed {

@@ -14,7 +14,7 @@ returns : tie.Need-returns
 returns c =
     let start = c .before .before .before .before .before .before in
     let w = rw (listing-malformed (start .args .input .now) (unformed (start .args .input .now) (c .before .before .before .before .parse .ensures) (not-true _ (c .before .before .if1 .taken)))) at (c .put-refused .ensures) in
-    (w, listing-fits (start .args .input .now) w)
+    (w, listing-fits (start .args .input .now) (search needs) w)
 
 formed : (c : tie.After-table) → Told (c .before .before .before .before .before .args .input .now) (c .before .before .before .parse .result)
 formed c = told (c .before .before .before .before .before .args .input .now) (c .before .before .before .parse .ensures) (not-false _ (c .before .if1 .left))
@@ -23,7 +23,7 @@ returns-2 : tie.Need-returns-2
 returns-2 c =
     let start = c .before .before .before .before .before .before .before .before .before .before .before .before in
     let w = rw (listing-formed (start .args .input .now) (formed (c .before .before .before .before .before .before .before))) at (c .put-sheet .ensures) in
-    (w, listing-fits (start .args .input .now) w)
+    (w, listing-fits (start .args .input .now) (search needs) w)
 
 pub listing-spec : {M : Type 1} → statement M
 listing-spec =
