@@ -1,0 +1,120 @@
+// The lists of a trial and how they are read. Every read is total: past a list's end stands 0, and what finds no room is left out.
+ghost use Prim.Native.Nat.{_<_};
+
+// Room for 17 tasks and for 66 jobs, which are more than are allowed.
+pub(crate) struct List {
+    pub at: [u32; 224],
+    pub len: usize,
+}
+
+// A schedule, with room for the longest horizon that is run.
+pub(crate) struct Line {
+    pub at: [u16; 512],
+}
+
+// What stands in a schedule before a call.
+pub(crate) const KEPT: u16 = 23130;
+
+pub(crate) const IDLE: u16 = 65535;
+
+// The columns of a task and of a job.
+pub(crate) const PERIOD: usize = 0;
+pub(crate) const DEADLINE: usize = 1;
+pub(crate) const NOMINAL: usize = 2;
+pub(crate) const OVERLOAD: usize = 3;
+pub(crate) const CRITICALITY: usize = 4;
+pub(crate) const PRIORITY: usize = 5;
+pub(crate) const OFFSET: usize = 6;
+pub(crate) const OWNER: usize = 0;
+pub(crate) const ARRIVAL: usize = 1;
+pub(crate) const EXECUTION: usize = 2;
+
+pub(crate) fn no_list() -> List {
+    List {
+        at: [0; 224],
+        len: 0,
+    }
+}
+
+pub(crate) fn no_line() -> Line {
+    Line { at: [KEPT; 512] }
+}
+
+impl List {
+    pub(crate) fn push(self, x: u32) -> List {
+        let n = self.len;
+        let mut next = self;
+        if n < 224 {
+            next.at[n] = x;
+            next.len = n + 1;
+        }
+        next
+    }
+
+    pub(crate) fn with(self, i: usize, x: u32) -> List {
+        let mut next = self;
+        if i < 224 {
+            next.at[i] = x;
+        }
+        next
+    }
+
+    pub(crate) fn get(self, i: usize) -> u32 {
+        if i < 224 { self.at[i] } else { 0 }
+    }
+
+    pub(crate) fn cut(self, len: usize) -> List {
+        let mut next = self;
+        next.len = len;
+        next
+    }
+}
+
+pub(crate) fn at(list: &[u32], i: usize) -> u32 {
+    if i < list.len() { list[i] } else { 0 }
+}
+
+pub(crate) fn entry_at(line: &[u16], i: usize) -> u16 {
+    if i < line.len() { line[i] } else { KEPT }
+}
+
+// A field of a job, and of a task.
+pub(crate) fn job(jobs: &[u32], j: usize, column: usize) -> u32 {
+    if j < 100 {
+        if column < 3 {
+            return at(jobs, 3 * j + column);
+        }
+    }
+    0
+}
+
+pub(crate) fn task(tasks: &[u32], k: u32, column: usize) -> u32 {
+    if k < 100 {
+        if column < 7 {
+            return at(tasks, 7 * (k as usize) + column);
+        }
+    }
+    0
+}
+
+// A field of a job's task.
+pub(crate) fn of(tasks: &[u32], jobs: &[u32], j: usize, column: usize) -> u32 {
+    task(tasks, job(jobs, j, OWNER), column)
+}
+
+// The first n numbers, or all where there are fewer.
+pub(crate) fn front(list: &[u32], n: usize) -> &[u32] {
+    if n <= list.len() { &list[..n] } else { list }
+}
+
+pub(crate) fn front_of_line(line: &[u16], n: usize) -> &[u16] {
+    if n <= line.len() { &line[..n] } else { line }
+}
+
+pub(crate) fn front_of_bytes(bytes: &[u8], n: usize) -> &[u8] {
+    if n <= bytes.len() {
+        &bytes[..n]
+    } else {
+        bytes
+    }
+}

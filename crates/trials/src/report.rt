@@ -1,0 +1,121 @@
+// The lines of counts.
+use crate::print::count;
+use crate::print::text;
+use crate::tally::BUSY_TICKS;
+use crate::tally::CALLS;
+use crate::tally::CLAIM_LEGAL;
+use crate::tally::CLAIM_NOT_LEGAL;
+use crate::tally::DIFFERENCES;
+use crate::tally::ENDING_STEPS;
+use crate::tally::FIRST_KIND;
+use crate::tally::FIRST_REFUSAL;
+use crate::tally::IDLE_TICKS;
+use crate::tally::INPUTS;
+use crate::tally::JOBS_ENDED;
+use crate::tally::JOBS_LATE;
+use crate::tally::JOBS_MET;
+use crate::tally::JOBS_OPEN;
+use crate::tally::NO_TICKS;
+use crate::tally::OTHER_RUNS;
+use crate::tally::PARTS_EMPTY;
+use crate::tally::PARTS_SHOWN;
+use crate::tally::STEPS;
+use crate::tally::TAKEN;
+use crate::tally::Tally;
+use crate::tally::WITNESS_ACCEPTED;
+use crate::tally::WITNESS_NOT_LEGAL;
+use crate::tally::WITNESS_NOT_MISSED;
+
+pub(crate) fn head(name: &[u8], t: Tally) {
+    text(name);
+    count(b": inputs ", t.get(INPUTS));
+    count(b", calls ", t.get(CALLS));
+    count(b", differences ", t.get(DIFFERENCES));
+    text(b"\n");
+}
+
+// The runs of a group: their ticks, the steps, and the verdicts at their ends.
+pub(crate) fn runs(t: Tally, se: bool) {
+    count(b"  ticks idle ", t.get(IDLE_TICKS));
+    count(b", busy ", t.get(BUSY_TICKS));
+    count(b"; horizons 0 ", t.get(NO_TICKS));
+    count(b"; steps ", t.get(STEPS));
+    if se {
+        count(b", ending a job ", t.get(ENDING_STEPS));
+    }
+    verdicts(t, se);
+}
+
+fn verdicts(t: Tally, se: bool) {
+    count(b"\n  jobs met ", t.get(JOBS_MET));
+    count(b", late ", t.get(JOBS_LATE));
+    count(b", open ", t.get(JOBS_OPEN));
+    if se {
+        count(b", ended ", t.get(JOBS_ENDED));
+    }
+    count(b"; beyond the list ", t.get(FIRST_REFUSAL + 13));
+    text(b"\n");
+}
+
+// Legal claims of a kind, and those that are not.
+fn kind(name: &[u8], t: Tally, kind: usize) {
+    let own = FIRST_KIND + 2 * (kind % 8);
+    count(name, t.get(own));
+    count(b" and ", t.get(own + 1));
+}
+
+// The claims of a group by their kinds, the witnesses, and the parts.
+pub(crate) fn claims(t: Tally) {
+    count(b"  claims legal ", t.get(CLAIM_LEGAL));
+    count(b", not legal ", t.get(CLAIM_NOT_LEGAL));
+    count(b"; our runs ", t.get(FIRST_KIND + 12));
+    count(b"; last of equals ", t.get(FIRST_KIND + 14));
+    count(b", unlike ours ", t.get(OTHER_RUNS));
+    kinds(t);
+    witnesses(t);
+}
+
+fn kinds(t: Tally) {
+    kind(b"\n  changed claims, legal and not: jobs exchanged ", t, 0);
+    kind(b", from a tick on ", t, 1);
+    kind(b", another job ", t, 2);
+    kind(b", idle ", t, 3);
+    kind(b", no job ", t, 4);
+    kind(b", neighbours exchanged ", t, 5);
+}
+
+fn witnesses(t: Tally) {
+    count(b"\n  witnesses accepted ", t.get(WITNESS_ACCEPTED));
+    count(b", not missed ", t.get(WITNESS_NOT_MISSED));
+    count(b", not legal ", t.get(WITNESS_NOT_LEGAL));
+    count(b"; parts shown ", t.get(PARTS_SHOWN));
+    count(b", empty ", t.get(PARTS_EMPTY));
+    text(b"\n");
+}
+
+// Inputs by the refusal that they met.
+pub(crate) fn refusals(t: Tally) {
+    text(b"  refused");
+    for r in 1..11 {
+        let n = t.get(FIRST_REFUSAL + r);
+        if 0 < n {
+            count(b" ", r as u32);
+            count(b": ", n);
+        }
+    }
+    count(b"; taken ", t.get(TAKEN));
+    text(b"\n");
+}
+
+// Steps and verdicts from altered records.
+pub(crate) fn records(t: Tally) {
+    count(b"  steps taken ", t.get(STEPS));
+    count(b"; refused 11: ", t.get(FIRST_REFUSAL + 11));
+    count(b", 12: ", t.get(FIRST_REFUSAL + 12));
+    count(b", 13: ", t.get(FIRST_REFUSAL + 13));
+    count(b"; verdicts met ", t.get(JOBS_MET));
+    count(b", late ", t.get(JOBS_LATE));
+    count(b", open ", t.get(JOBS_OPEN));
+    count(b", ended ", t.get(JOBS_ENDED));
+    text(b"\n");
+}
