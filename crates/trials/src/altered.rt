@@ -1,4 +1,5 @@
 // Records with one change, from which a step and a verdict are asked: most are not consistent, some are and were never reached.
+ghost use Prim.Native.Nat.{_<_};
 use crate::draw::draw;
 use zsrm::Place;
 use zsrm::Record;
@@ -9,7 +10,9 @@ fn some_instant(trial: u32, place: u32, tick: u32) -> u32 {
     if near == 0 { 0 } else { near - 1 }
 }
 
-fn some_standing(trial: u32, place: u32, tick: u32) -> Standing {
+fn some_standing(trial: u32, place: u32, tick: u32) -> Standing
+    requires { ⌜ place < 60000 ⌝ }
+{
     let kind = draw(trial, place, 6);
     let t = some_instant(trial, place + 1, tick);
     let any = draw(trial, place + 2, tick % 65536 + 1);
@@ -60,8 +63,16 @@ fn some_tick(trial: u32, place: u32, tick: u32) -> u32 {
 fn altered_place(p: Place, trial: u32, tick: u32) -> Place {
     let kind = draw(trial, 60, 3);
     let before = p.standing;
-    let standing = if kind == 0 { before } else { some_standing(trial, 61, tick) };
-    let done = if kind == 1 { p.done } else { some_done(trial, 65, p.done) };
+    let standing = if kind == 0 {
+        before
+    } else {
+        some_standing(trial, 61, tick)
+    };
+    let done = if kind == 1 {
+        p.done
+    } else {
+        some_done(trial, 65, p.done)
+    };
     Place { done, standing }
 }
 

@@ -7,14 +7,19 @@ use zsrm::Verdict;
 use zsrm::Witness;
 
 pub(crate) const REFUSED: u64 = 1000000;
+
 pub(crate) const NOT_LEGAL: u64 = 65536;
 
 pub(crate) const MET: u64 = 1;
+
 pub(crate) const LATE: u64 = 2;
+
 pub(crate) const ENDED: u64 = 3;
+
 pub(crate) const OPEN: u64 = 4;
 
 pub(crate) const NOT_MISSED: u64 = 5;
+
 pub(crate) const ACCEPTED: u64 = 6;
 
 pub(crate) fn mode_of(se: bool) -> Mode {
@@ -27,7 +32,11 @@ fn refused(number: u32, place: u32) -> u64 {
 
 // The number of a refusal that is expected, packed, or 0.
 pub(crate) fn refusal(packed: u32) -> u64 {
-    if packed == 0 { 0 } else { REFUSED + (packed as u64) }
+    if packed == 0 {
+        0
+    } else {
+        REFUSED + (packed as u64)
+    }
 }
 
 pub(crate) fn of_outcome(outcome: Outcome) -> u64 {

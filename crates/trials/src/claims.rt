@@ -68,11 +68,19 @@ pub(crate) fn try_verdict(
     } else {
         refusal(packed(key))
     };
-    t.late_refusal(want).verdict(want).note(inp, b"verdict", want, got)
+    t.late_refusal(want)
+        .verdict(want)
+        .note(inp, b"verdict", want, got)
 }
 
 // The verdicts on all jobs, and on one beyond the list.
-pub(crate) fn try_verdicts(t: Tally, inp: Input, tasks: &[u32], jobs: &[u32], rec: Record) -> Tally {
+pub(crate) fn try_verdicts(
+    t: Tally,
+    inp: Input,
+    tasks: &[u32],
+    jobs: &[u32],
+    rec: Record,
+) -> Tally {
     let n = jobs.len() / 3;
     let mut now = t;
     for j in 0..65 {
@@ -146,7 +154,7 @@ fn part_length(judged: Judged, jobs: &[u32], j: u32) -> u32 {
 // How many entries of a part differ from those of the schedule at a place.
 fn unlike_part(part: &[u16], line: &[u16], from: u32) -> u64 {
     let n = part.len();
-    let mut unlike: u32 = 0;
+    let mut unlike: u64 = 0;
     for i in 0..n {
         if i < 65536 {
             if entry_at(part, i) != entry_at(line, i + (from as usize)) {
@@ -154,26 +162,75 @@ fn unlike_part(part: &[u16], line: &[u16], from: u32) -> u64 {
             }
         }
     }
-    unlike as u64
+    unlike
 }
 
-fn try_part(t: Tally, inp: Input, tasks: &[u32], jobs: &[u32], line: &[u16], j: u32, length: u32) -> Tally {
+fn try_part(
+    t: Tally,
+    inp: Input,
+    tasks: &[u32],
+    jobs: &[u32],
+    line: &[u16],
+    j: u32,
+    length: u32,
+) -> Tally {
     let a = job(jobs, (j % 64) as usize, ARRIVAL);
     let part = zsrm::response(mode_of(inp.se), tasks, jobs, inp.horizon, line, j);
-    let kind = if length == 0 { PARTS_EMPTY } else { PARTS_SHOWN };
-    let first = t.plus(kind).note_on(inp, line, b"response, length", length as u64, part.len() as u64);
-    first.note_on(inp, line, b"response, entries", 0, unlike_part(part, line, a))
+    let kind = if length == 0 {
+        PARTS_EMPTY
+    } else {
+        PARTS_SHOWN
+    };
+    let first = t.plus(kind).note_on(
+        inp,
+        line,
+        b"response, length",
+        length as u64,
+        part.len() as u64,
+    );
+    first.note_on(
+        inp,
+        line,
+        b"response, entries",
+        0,
+        unlike_part(part, line, a),
+    )
 }
 
-fn try_witness(t: Tally, inp: Input, tasks: &[u32], jobs: &[u32], line: &[u16], judged: Judged, j: u32) -> Tally {
+fn try_witness(
+    t: Tally,
+    inp: Input,
+    tasks: &[u32],
+    jobs: &[u32],
+    line: &[u16],
+    judged: Judged,
+    j: u32,
+) -> Tally {
     let want = witness_answer(judged, tasks, jobs, j);
     let got = of_witness(zsrm::witness(mode_of(inp.se), tasks, jobs, inp.horizon, line, j));
-    let first = t.late_refusal(want).witness(want).note_on(inp, line, b"witness", want, got);
-    try_part(first, inp, tasks, jobs, line, j, part_length(judged, jobs, j))
+    let first = t.late_refusal(want)
+        .witness(want)
+        .note_on(inp, line, b"witness", want, got);
+    try_part(
+        first,
+        inp,
+        tasks,
+        jobs,
+        line,
+        j,
+        part_length(judged, jobs, j),
+    )
 }
 
 // A claim, and with it the witness and the part of every so-many-th job, and of one beyond the list.
-pub(crate) fn try_claim(t: Tally, inp: Input, tasks: &[u32], jobs: &[u32], line: &[u16], every: usize) -> Tally {
+pub(crate) fn try_claim(
+    t: Tally,
+    inp: Input,
+    tasks: &[u32],
+    jobs: &[u32],
+    line: &[u16],
+    every: usize,
+) -> Tally {
     let judged = judge_claim(inp, tasks, jobs, line);
     let want = claim_answer(judged);
     let got = of_claim(zsrm::claim(mode_of(inp.se), tasks, jobs, inp.horizon, line));

@@ -55,7 +55,7 @@ fn line_bytes(line: &[u16]) -> Bytes {
 
 // How many bytes of a schedule are not as they must be.
 fn unlike_bytes(got: &[u8], line: &[u16]) -> u64 {
-    let mut n: u32 = 0;
+    let mut n: u64 = 0;
     for i in 0..1040 {
         if i < got.len() {
             if got[i] != byte(entry_at(line, i / 2) as u32, (i % 2) as u32) {
@@ -63,7 +63,12 @@ fn unlike_bytes(got: &[u8], line: &[u16]) -> u64 {
             }
         }
     }
-    n as u64
+    n
+}
+
+fn unlike_schedule(got: &[u8], want: Line) -> u64 {
+    let entries = want.at;
+    unlike_bytes(got, &entries)
 }
 
 // How the input is handed over: the mode, and how many bytes too many each list is said to have.
@@ -76,13 +81,13 @@ pub(crate) struct Handed {
 
 // What the calls from C are refused for.
 fn c_key(h: Handed, inp: Input, tasks: &[u32], jobs: &[u32]) -> u32 {
-    let ragged = least(
-        when(h.tasks % 4 != 0, TASKS),
-        when(h.jobs % 4 != 0, JOBS),
-    );
+    let ragged = least(when(h.tasks % 4 != 0, TASKS), when(h.jobs % 4 != 0, JOBS));
     let ends = least(
         when(16384 < inp.horizon, HORIZON),
-        when((h.entries != 0) | (inp.room != (inp.horizon as usize)), ENTRIES),
+        when(
+            (h.entries != 0) | (inp.room != (inp.horizon as usize)),
+            ENTRIES,
+        ),
     );
     let lists = least(when(1 < h.mode, MODE), lists_key(tasks, jobs));
     least(lists, least(ragged, ends))
@@ -97,7 +102,7 @@ fn lent_c_run(
     n: usize,
 ) -> u32 {
     if n <= line.len() {
-        zsrm::zsrm_run(mode, tasks, jobs, horizon, &mut line[..n])
+        zsrm::zsrm_run(mode, tasks, jobs, horizon, &mut line[0..n])
     } else {
         zsrm::zsrm_run(mode, tasks, jobs, horizon, line)
     }
@@ -115,6 +120,11 @@ fn entry_bytes(h: Handed, inp: Input) -> usize {
     2 * (inp.room % 65536) + h.entries % 2
 }
 
+// The schedule that a call leaves.
+fn left_by(key: u32, ours: Line) -> Line {
+    if key == FINE { ours } else { no_line() }
+}
+
 pub(crate) fn try_c_run(
     t: Tally,
     inp: Input,
@@ -125,9 +135,8 @@ pub(crate) fn try_c_run(
 ) -> Tally {
     let key = c_key(h, inp, tasks, jobs);
     let before = no_line();
-    let want = if key == FINE { ours } else { before };
+    let want = left_by(key, ours);
     let kept = before.at;
-    let must = want.at;
     let table = list_bytes(tasks);
     let list = list_bytes(jobs);
     let line = line_bytes(&kept);
@@ -143,7 +152,7 @@ pub(crate) fn try_c_run(
         entry_bytes(h, inp),
     );
     let first = t.note(inp, b"zsrm_run", packed(key) as u64, got as u64);
-    first.note(inp, b"zsrm_run, bytes", 0, unlike_bytes(&c, &must))
+    first.note(inp, b"zsrm_run, bytes", 0, unlike_schedule(&c, want))
 }
 
 // What a claim from C comes to, as one number.
@@ -153,7 +162,11 @@ fn claim_number(h: Handed, inp: Input, tasks: &[u32], jobs: &[u32], line: &[u16]
         return packed(key) as u64;
     }
     let r = replayed(h.mode == 1, tasks, jobs, inp.horizon, line);
-    if r.bad == 0 { 0 } else { 65535 + (r.bad as u64) }
+    if r.bad == 0 {
+        0
+    } else {
+        65535 + (r.bad as u64)
+    }
 }
 
 pub(crate) fn try_c_claim(
@@ -178,7 +191,8 @@ pub(crate) fn try_c_claim(
         front_of_bytes(&c, entry_bytes(h, inp)),
     );
     let want = claim_number(h, inp, tasks, jobs, line);
-    t.c_claim(want).note_on(inp, line, b"zsrm_claim", want, got as u64)
+    t.c_claim(want)
+        .note_on(inp, line, b"zsrm_claim", want, got as u64)
 }
 
 // The refusal that the calls from C must give.

@@ -1,4 +1,5 @@
 // Inputs damaged in one place: every refusal of a task table, a job list, a horizon and a length, at the edge and far beyond it.
+ghost use Prim.Native.Nat.{_<_};
 use crate::draw::draw;
 use crate::list::ARRIVAL;
 use crate::list::DEADLINE;
@@ -70,7 +71,9 @@ fn wrong_length(list: List, trial: u32, place: u32, too_many: usize) -> List {
 }
 
 // One field of a task out of its range, or out of its order.
-fn wrong_task(tasks: List, trial: u32, place: u32) -> List {
+fn wrong_task(tasks: List, trial: u32, place: u32) -> List
+    requires { ⌜ place < 50000 ⌝ }
+{
     let k = draw(trial, place, ((tasks.len / 7) % 64) as u32) as usize;
     let row = 7 * k;
     let kind = draw(trial, place + 1, 6);
@@ -91,7 +94,9 @@ fn wrong_task(tasks: List, trial: u32, place: u32) -> List {
 }
 
 // A row's place in a list of jobs, not the first where there are two.
-fn some_row(jobs: List, trial: u32, place: u32) -> usize {
+fn some_row(jobs: List, trial: u32, place: u32) -> usize
+    ensures { λ r. ⌜ r < 200000 ⌝ }
+{
     let n = ((jobs.len / 3) % 128) as u32;
     if n < 2 {
         return 0;
@@ -100,7 +105,9 @@ fn some_row(jobs: List, trial: u32, place: u32) -> usize {
 }
 
 // A task that is not there, an arrival or an execution time beyond its bound.
-fn wrong_job(jobs: List, tasks: List, trial: u32, place: u32) -> List {
+fn wrong_job(jobs: List, tasks: List, trial: u32, place: u32) -> List
+    requires { ⌜ place < 50000 ⌝ }
+{
     let row = some_row(jobs, trial, place);
     let kind = draw(trial, place + 1, 3);
     let owner = (jobs.get(row + OWNER) % 64) as usize;
@@ -114,7 +121,9 @@ fn wrong_job(jobs: List, tasks: List, trial: u32, place: u32) -> List {
     jobs.with(row + EXECUTION, above(tasks.get(7 * owner + OVERLOAD)))
 }
 
-fn pick_owner(trial: u32, place: u32, count: u32) -> u32 {
+fn pick_owner(trial: u32, place: u32, count: u32) -> u32
+    requires { ⌜ place < 60000 ⌝ }
+{
     if draw(trial, place, 2) == 0 {
         count
     } else {
@@ -123,7 +132,9 @@ fn pick_owner(trial: u32, place: u32, count: u32) -> u32 {
 }
 
 // An arrival before the one above it, or too soon after the task's preceding job.
-fn wrong_arrival(jobs: List, trial: u32, place: u32) -> List {
+fn wrong_arrival(jobs: List, trial: u32, place: u32) -> List
+    requires { ⌜ place < 50000 ⌝ }
+{
     let row = some_row(jobs, trial, place);
     let kind = draw(trial, place + 1, 4);
     if row < 3 {
@@ -155,7 +166,9 @@ fn with_jobs(inp: Input, jobs: List) -> Input {
 }
 
 // Another horizon, or another number of entries than the horizon.
-fn wrong_ends(inp: Input, trial: u32, place: u32) -> Input {
+fn wrong_ends(inp: Input, trial: u32, place: u32) -> Input
+    requires { ⌜ place < 50000 ⌝ }
+{
     let kind = draw(trial, place, 5);
     let mut next = inp;
     if kind == 0 {
@@ -178,11 +191,13 @@ fn wrong_ends(inp: Input, trial: u32, place: u32) -> Input {
 }
 
 // The input with one damage; two damages are this one twice, at other places of the draw.
-pub(crate) fn damaged(inp: Input, trial: u32, place: u32) -> Input {
+pub(crate) fn damaged(inp: Input, trial: u32, place: u32) -> Input
+    requires { ⌜ place < 40000 ⌝ }
+{
     let tasks = inp.tasks;
     let jobs = inp.jobs;
     let kind = draw(trial, place, 12);
-    let next = place % 65536 + 1;
+    let next = place + 1;
     if kind == 0 {
         return with_tasks(inp, wrong_length(tasks, trial, next, 119));
     }

@@ -36,7 +36,11 @@ pub(crate) fn fill(line: Line, from: u32, to: u32, entry: u16) -> Line {
 fn flown(f: Flight, se: bool, tasks: &[u32], jobs: &[u32], horizon: u32, ours: bool) -> Flight {
     let s = f.end;
     let before = f.line;
-    let x = if ours { choice(s, tasks, jobs) } else { other_choice(s, tasks, jobs) };
+    let x = if ours {
+        choice(s, tasks, jobs)
+    } else {
+        other_choice(s, tasks, jobs)
+    };
     let end = leap(s, se, tasks, jobs, x, horizon);
     let line = fill(before, s.now, end.now, entry_of(x));
     Flight { line, end }
@@ -66,7 +70,11 @@ fn named(jobs: &[u32], entry: u16) -> usize {
     if entry == IDLE {
         return 64;
     }
-    if (entry as usize) < jobs.len() / 3 { entry as usize } else { 65 }
+    if (entry as usize) < jobs.len() / 3 {
+        entry as usize
+    } else {
+        65
+    }
 }
 
 // The end of the stretch of equal entries that begins at a tick.
@@ -107,7 +115,13 @@ fn taken(s: Sim, se: bool, tasks: &[u32], jobs: &[u32], horizon: u32, line: &[u1
     }
 }
 
-pub(crate) fn replayed(se: bool, tasks: &[u32], jobs: &[u32], horizon: u32, line: &[u16]) -> Replay {
+pub(crate) fn replayed(
+    se: bool,
+    tasks: &[u32],
+    jobs: &[u32],
+    horizon: u32,
+    line: &[u16],
+) -> Replay {
     let start = begin(jobs);
     let mut r = Replay { bad: 0, end: start };
     for leaps in 0..horizon {

@@ -8,6 +8,7 @@ use crate::cside::try_c_claim;
 use crate::cside::try_c_run;
 use crate::damage::damaged;
 use crate::draw::draw;
+use crate::draw::rarely;
 use crate::list::front;
 use crate::list::front_of_line;
 use crate::print::Input;
@@ -18,6 +19,7 @@ use crate::report::head;
 use crate::report::records;
 use crate::report::refusals;
 use crate::report::runs;
+use crate::runs::Want;
 use crate::runs::blank_record;
 use crate::runs::expected;
 use crate::runs::try_run;
@@ -32,42 +34,29 @@ use crate::traced::traced;
 use crate::whole::try_refused;
 use crate::whole::try_whole;
 
-fn good_trial(t: Tally, trial: u32, se: bool, big: bool) -> Tally {
-    let inp = if big { large(trial, se) } else { small(trial, se) };
-    let task_list = inp.tasks;
-    let job_list = inp.jobs;
-    let all_tasks = task_list.at;
-    let all_jobs = job_list.at;
-    let tasks = front(&all_tasks, task_list.len);
-    let jobs = front(&all_jobs, job_list.len);
-    let want = expected(inp, tasks, jobs);
-    let every = if big { 9 } else { 1 };
-    try_whole(t.plus(INPUTS), inp, tasks, jobs, want, trial, every)
-}
+// The kinds of trials.
+const SMALL: u32 = 0;
 
-fn damaged_trial(t: Tally, trial: u32, se: bool, twice: bool) -> Tally {
-    let once = damaged(small(trial, se), trial, 20000);
-    let inp = if twice { damaged(once, trial, 30000) } else { once };
-    let task_list = inp.tasks;
-    let job_list = inp.jobs;
-    let all_tasks = task_list.at;
-    let all_jobs = job_list.at;
-    let tasks = front(&all_tasks, task_list.len);
-    let jobs = front(&all_jobs, job_list.len);
-    let want = expected(inp, tasks, jobs);
-    try_refused(t.plus(INPUTS), inp, tasks, jobs, want, blank_record())
-}
+const LARGE: u32 = 1;
+
+const DAMAGED: u32 = 2;
+
+const TWICE_DAMAGED: u32 = 3;
+
+const ALTERED: u32 = 4;
+
+const FROM_C: u32 = 5;
 
 // A record of a run, with one change.
-fn record_trial(t: Tally, trial: u32, se: bool) -> Tally {
-    let inp = small(trial, se);
-    let task_list = inp.tasks;
-    let job_list = inp.jobs;
-    let all_tasks = task_list.at;
-    let all_jobs = job_list.at;
-    let tasks = front(&all_tasks, task_list.len);
-    let jobs = front(&all_jobs, job_list.len);
-    let ran = try_run(t.plus(INPUTS), inp, tasks, jobs, expected(inp, tasks, jobs));
+fn record_trial(
+    t: Tally,
+    inp: Input,
+    tasks: &[u32],
+    jobs: &[u32],
+    want: Want,
+    trial: u32,
+) -> Tally {
+    let ran = try_run(t, inp, tasks, jobs, want);
     let before = ran.record;
     let after_run = ran.t;
     let rec = altered(before, trial, ((jobs.len() / 3) % 64) as u32);
@@ -101,46 +90,72 @@ fn handed(inp: Input, trial: u32) -> Handed {
     h
 }
 
-fn c_trial(t: Tally, trial: u32, se: bool) -> Tally {
-    let whole = small(trial, se);
-    let inp = if draw(trial, 45, 2) == 0 { whole } else { damaged(whole, trial, 20000) };
-    let task_list = inp.tasks;
-    let job_list = inp.jobs;
-    let all_tasks = task_list.at;
-    let all_jobs = job_list.at;
-    let tasks = front(&all_tasks, task_list.len);
-    let jobs = front(&all_jobs, job_list.len);
-    let want = expected(inp, tasks, jobs);
+fn c_trial(t: Tally, inp: Input, tasks: &[u32], jobs: &[u32], want: Want, trial: u32) -> Tally {
     let own = want.line;
     let all = own.at;
+    let line = front_of_line(&all, inp.room);
     let h = handed(inp, trial);
-    let counted = t.plus(INPUTS).refusal(c_refusal(h, inp, tasks, jobs));
+    let counted = t.refusal(c_refusal(h, inp, tasks, jobs));
     let run = try_c_run(counted, inp, tasks, jobs, h, own);
-    try_c_claim(run, inp, tasks, jobs, h, front_of_line(&all, inp.room))
+    try_c_claim(run, inp, tasks, jobs, h, line)
+}
+
+fn input_of(kind: u32, trial: u32, se: bool) -> Input {
+    if kind == LARGE {
+        return large(trial, se);
+    }
+    let whole = small(trial, se);
+    if kind == DAMAGED {
+        return damaged(whole, trial, 20000);
+    }
+    if kind == TWICE_DAMAGED {
+        return damaged(damaged(whole, trial, 20000), trial, 30000);
+    }
+    if (kind == FROM_C) & rarely(trial, 45, 2) {
+        damaged(whole, trial, 20000)
+    } else {
+        whole
+    }
+}
+
+fn trial_on(kind: u32, t: Tally, inp: Input, tasks: &[u32], jobs: &[u32], trial: u32) -> Tally {
+    let want = expected(inp, tasks, jobs);
+    if kind == SMALL {
+        return try_whole(t, inp, tasks, jobs, want, trial, 1);
+    }
+    if kind == LARGE {
+        return try_whole(t, inp, tasks, jobs, want, trial, 9);
+    }
+    if kind == ALTERED {
+        return record_trial(t, inp, tasks, jobs, want, trial);
+    }
+    if kind == FROM_C {
+        c_trial(t, inp, tasks, jobs, want, trial)
+    } else {
+        try_refused(t, inp, tasks, jobs, want, blank_record())
+    }
 }
 
 fn trial_of(kind: u32, t: Tally, trial: u32, se: bool) -> Tally {
-    if kind == 0 {
-        return good_trial(t, trial, se, false);
-    }
-    if kind == 1 {
-        return good_trial(t, trial, se, true);
-    }
-    if kind == 2 {
-        return damaged_trial(t, trial, se, false);
-    }
-    if kind == 3 {
-        return damaged_trial(t, trial, se, true);
-    }
-    if kind == 4 {
-        return record_trial(t, trial, se);
-    }
-    c_trial(t, trial, se)
+    let inp = input_of(kind, trial, se);
+    let task_list = inp.tasks;
+    let job_list = inp.jobs;
+    let tasks = task_list.at;
+    let jobs = job_list.at;
+    trial_on(
+        kind,
+        t.plus(INPUTS),
+        inp,
+        front(&tasks, task_list.len),
+        front(&jobs, job_list.len),
+        trial,
+    )
 }
 
 // So many trials of a kind in a mode, each with a number of its own.
 fn trials(kind: u32, se: bool, n: u32) -> Tally {
-    let first = 100000 * (2 * (kind % 8) + (if se { 1 } else { 0 }));
+    let even = 200000 * (kind % 8);
+    let first = if se { even + 100000 } else { even };
     let mut t = nothing();
     for i in 0..n {
         t = trial_of(kind, t, std::num::wrapping_add_u32(first, i), se);
@@ -164,26 +179,26 @@ fn damaged_group(name: &[u8], kind: u32, se: bool, n: u32) -> Tally {
 }
 
 fn record_group(name: &[u8], se: bool, n: u32) -> Tally {
-    let t = trials(4, se, n);
+    let t = trials(ALTERED, se, n);
     head(name, t);
     records(t);
     t
 }
 
 fn good_groups() -> Tally {
-    let a = good_group(b"small S", 0, false, 1000);
-    let b = a.with(good_group(b"small SE", 0, true, 1500));
-    let c = b.with(good_group(b"large S", 1, false, 20));
-    c.with(good_group(b"large SE", 1, true, 30))
+    let a = good_group(b"small S", SMALL, false, 1000);
+    let b = a.with(good_group(b"small SE", SMALL, true, 1500));
+    let c = b.with(good_group(b"large S", LARGE, false, 20));
+    c.with(good_group(b"large SE", LARGE, true, 30))
 }
 
 fn damaged_groups() -> Tally {
-    let a = damaged_group(b"damaged S", 2, false, 700);
-    let b = a.with(damaged_group(b"damaged SE", 2, true, 700));
-    let c = b.with(damaged_group(b"twice damaged S", 3, false, 500));
-    let d = c.with(damaged_group(b"twice damaged SE", 3, true, 500));
-    let e = d.with(damaged_group(b"from C, S", 5, false, 400));
-    e.with(damaged_group(b"from C, SE", 5, true, 400))
+    let a = damaged_group(b"damaged S", DAMAGED, false, 700);
+    let b = a.with(damaged_group(b"damaged SE", DAMAGED, true, 700));
+    let c = b.with(damaged_group(b"twice damaged S", TWICE_DAMAGED, false, 500));
+    let d = c.with(damaged_group(b"twice damaged SE", TWICE_DAMAGED, true, 500));
+    let e = d.with(damaged_group(b"from C, S", FROM_C, false, 400));
+    e.with(damaged_group(b"from C, SE", FROM_C, true, 400))
 }
 
 fn record_groups() -> Tally {

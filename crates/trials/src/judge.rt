@@ -6,25 +6,35 @@ use crate::list::EXECUTION;
 use crate::list::NOMINAL;
 use crate::list::OFFSET;
 use crate::list::OVERLOAD;
+use crate::list::OWNER;
 use crate::list::PERIOD;
 use crate::list::PRIORITY;
-use crate::list::OWNER;
 use crate::list::job;
 use crate::list::task;
+use crate::list::wide;
 
 // Nothing is broken.
 pub(crate) const FINE: u32 = 9000;
 
 // The keys of 1, 2, 5 and 9 to 13; those of the tasks begin at 100, two to a task, those of the jobs at 2,000, three to a job.
 pub(crate) const MODE: u32 = 1;
+
 pub(crate) const TASKS: u32 = 2;
+
 const FIRST_TASK: u32 = 100;
+
 pub(crate) const JOBS: u32 = 1000;
+
 const FIRST_JOB: u32 = 2000;
+
 pub(crate) const HORIZON: u32 = 3000;
+
 pub(crate) const ENTRIES: u32 = 3001;
+
 pub(crate) const RECORD: u32 = 3002;
+
 pub(crate) const LAST_TICK: u32 = 3003;
+
 pub(crate) const NAMED: u32 = 3004;
 
 pub(crate) fn least(a: u32, b: u32) -> u32 {
@@ -67,10 +77,7 @@ fn task_key(tasks: &[u32], k: u32) -> u32 {
     let scales = (task(tasks, k, CRITICALITY) <= 255) & (task(tasks, k, PRIORITY) <= 63);
     let ordered = (z <= d) & (d <= t) & (c <= co);
     let first = FIRST_TASK + 2 * (k % 100);
-    least(
-        when(!(times & scales), first),
-        when(!ordered, first + 1),
-    )
+    least(when(!(times & scales), first), when(!ordered, first + 1))
 }
 
 fn tasks_key(tasks: &[u32]) -> u32 {
@@ -101,7 +108,7 @@ fn job_key(seen: Seen, tasks: &[u32], jobs: &[u32], j: usize) -> u32 {
     }
     let i = (k % 16) as usize;
     let last = seen.latest[i];
-    let soon = (0 < last) & ((a as u64) + 1 < (last as u64) + (task(tasks, k, PERIOD) as u64));
+    let soon = (0 < last) & (wide(a) + 1 < wide(last) + wide(task(tasks, k, PERIOD)));
     let wide = (16384 < a) | (task(tasks, k, OVERLOAD) < job(jobs, j, EXECUTION));
     least(
         when(wide, first),

@@ -8,6 +8,7 @@ use crate::list::OFFSET;
 use crate::list::PRIORITY;
 use crate::list::job;
 use crate::list::of;
+use crate::list::wide;
 
 // Beyond every instant.
 const FAR: u64 = 1099511627776;
@@ -233,7 +234,7 @@ pub(crate) fn fixed_instant(tasks: &[u32], jobs: &[u32], now: u32) -> bool {
     if now == 0 {
         return true;
     }
-    soonest(tasks, jobs, now - 1, now + 1) == (now as u64)
+    soonest(tasks, jobs, now - 1, 65536) == (now as u64)
 }
 
 // When the job that runs finishes or, in SE, reaches C.
@@ -253,10 +254,18 @@ fn runs_until(se: bool, tasks: &[u32], jobs: &[u32], x: usize, left: u32, now: u
 }
 
 // The pressure of a job whose work exceeds C once the present tick has begun; 0 for every other.
-fn excess(tasks: &[u32], jobs: &[u32], j: usize, runs: bool, left: u32, fate: u32, now: u32) -> u64 {
-    let spent: u64 = if runs { 1 } else { 0 };
-    let work = (job(jobs, j, EXECUTION) as u64) + spent;
-    if (of(tasks, jobs, j, NOMINAL) as u64) + (left as u64) < work {
+fn excess(
+    tasks: &[u32],
+    jobs: &[u32],
+    j: usize,
+    runs: bool,
+    left: u32,
+    fate: u32,
+    now: u32,
+) -> u64 {
+    let begun = wide(of(tasks, jobs, j, NOMINAL)) + wide(left);
+    let work = wide(job(jobs, j, EXECUTION));
+    if (begun < work) | (runs & (begun == work)) {
         pressure(tasks, jobs, j, fate, now)
     } else {
         0
@@ -294,11 +303,12 @@ fn spend(s: Sim, se: bool, tasks: &[u32], jobs: &[u32], x: usize, until: u32) ->
     next.turn = false;
     if x < 64 {
         let left = s.left[x];
-        let rest = (left as u64) + (s.now as u64);
+        let rest = wide(left) + wide(s.now);
         if (until as u64) < rest {
             let remains = ((rest - (until as u64)) % 4294967296) as u32;
             next.left[x] = remains;
-            let reached = job(jobs, x, EXECUTION) as u64 == (of(tasks, jobs, x, NOMINAL) as u64) + (remains as u64);
+            let reached = job(jobs, x, EXECUTION) as u64
+                == (of(tasks, jobs, x, NOMINAL) as u64) + (remains as u64);
             next.turn = se & reached;
         } else {
             next.left[x] = 0;
@@ -313,7 +323,11 @@ fn spend(s: Sim, se: bool, tasks: &[u32], jobs: &[u32], x: usize, until: u32) ->
 // alone.
 pub(crate) fn leap(s: Sim, se: bool, tasks: &[u32], jobs: &[u32], x: usize, limit: u32) -> Sim {
     let left = if x < 64 { s.left[x] } else { 0 };
-    let over = if se { greatest_excess(s, tasks, jobs, x) } else { 0 };
+    let over = if se {
+        greatest_excess(s, tasks, jobs, x)
+    } else {
+        0
+    };
     let cut = cut_down(s, tasks, jobs, over);
     let fixed = soonest(tasks, jobs, s.now, limit);
     let instant = earlier(fixed, runs_until(se, tasks, jobs, x, left, s.now));

@@ -19,14 +19,23 @@ pub(crate) const IDLE: u16 = 65535;
 
 // The columns of a task and of a job.
 pub(crate) const PERIOD: usize = 0;
+
 pub(crate) const DEADLINE: usize = 1;
+
 pub(crate) const NOMINAL: usize = 2;
+
 pub(crate) const OVERLOAD: usize = 3;
+
 pub(crate) const CRITICALITY: usize = 4;
+
 pub(crate) const PRIORITY: usize = 5;
+
 pub(crate) const OFFSET: usize = 6;
+
 pub(crate) const OWNER: usize = 0;
+
 pub(crate) const ARRIVAL: usize = 1;
+
 pub(crate) const EXECUTION: usize = 2;
 
 pub(crate) fn no_list() -> List {
@@ -70,6 +79,13 @@ impl List {
     }
 }
 
+// A number in 64 bits, where sums of a few fit.
+pub(crate) fn wide(x: u32) -> u64
+    ensures { λ r. ⌜ r < 4294967296 ⌝ }
+{
+    x as u64
+}
+
 pub(crate) fn at(list: &[u32], i: usize) -> u32 {
     if i < list.len() { list[i] } else { 0 }
 }
@@ -104,16 +120,16 @@ pub(crate) fn of(tasks: &[u32], jobs: &[u32], j: usize, column: usize) -> u32 {
 
 // The first n numbers, or all where there are fewer.
 pub(crate) fn front(list: &[u32], n: usize) -> &[u32] {
-    if n <= list.len() { &list[..n] } else { list }
+    if n <= list.len() { &list[0..n] } else { list }
 }
 
 pub(crate) fn front_of_line(line: &[u16], n: usize) -> &[u16] {
-    if n <= line.len() { &line[..n] } else { line }
+    if n <= line.len() { &line[0..n] } else { line }
 }
 
 pub(crate) fn front_of_bytes(bytes: &[u8], n: usize) -> &[u8] {
     if n <= bytes.len() {
-        &bytes[..n]
+        &bytes[0..n]
     } else {
         bytes
     }

@@ -71,13 +71,18 @@ pub(crate) fn yes(test: bool) -> u64 {
 
 // How many entries are not as they must be.
 pub(crate) fn unlike(got: &[u16], want: Line) -> u64 {
-    let mut n: u32 = 0;
+    let mut n: u64 = 0;
     for i in 0..512 {
         if entry_at(got, i) != want.at[i] {
             n = n % 65536 + 1;
         }
     }
-    n as u64
+    n
+}
+
+pub(crate) fn unlike_lines(got: Line, want: Line) -> u64 {
+    let entries = got.at;
+    unlike(&entries, want)
 }
 
 fn lent_run(
@@ -89,7 +94,7 @@ fn lent_run(
     room: usize,
 ) -> Ran {
     if room <= line.len() {
-        zsrm::run(mode, tasks, jobs, horizon, &mut line[..room])
+        zsrm::run(mode, tasks, jobs, horizon, &mut line[0..room])
     } else {
         zsrm::run(mode, tasks, jobs, horizon, line)
     }
@@ -117,7 +122,8 @@ pub(crate) fn try_run(t: Tally, inp: Input, tasks: &[u32], jobs: &[u32], want: W
     let entries = want.line;
     let end = want.end;
     let answer = refusal(packed(want.key));
-    let first = t.refusal(answer).note(inp, b"run, outcome", answer, of_outcome(outcome));
+    let first = t.refusal(answer)
+        .note(inp, b"run, outcome", answer, of_outcome(outcome));
     let second = first.note(inp, b"run, entries", 0, unlike(&line, entries));
     let held = holds(record, held_jobs(jobs, want.key), end);
     Tried {
@@ -132,7 +138,12 @@ pub(crate) fn try_fresh(t: Tally, inp: Input, tasks: &[u32], jobs: &[u32], stale
     let record = ran.record;
     let key = lists_key(tasks, jobs);
     let start = if key == FINE { begin(jobs) } else { blank() };
-    let first = t.note(inp, b"fresh, outcome", refusal(packed(key)), of_outcome(outcome));
+    let first = t.note(
+        inp,
+        b"fresh, outcome",
+        refusal(packed(key)),
+        of_outcome(outcome),
+    );
     let held = holds(record, held_jobs(jobs, key), start);
     first.note(inp, b"fresh, record", 1, yes(held))
 }

@@ -1,4 +1,5 @@
 // The step: repeated from the fresh record, and once from any record.
+ghost use Prim.Native.Nat.{_<_};
 use crate::answers::mode_of;
 use crate::answers::of_outcome;
 use crate::answers::refusal;
@@ -30,7 +31,7 @@ use zsrm::Stepped;
 
 // How many bits of the word differ from the jobs that one tick ended.
 fn unlike_ended(word: u64, before: Sim, after: Sim) -> u64 {
-    let mut n: u32 = 0;
+    let mut n: u64 = 0;
     for j in 0..64 {
         let own = (before.fate[j] == 0) & (after.fate[j] == ended(before.now));
         let told = (word >> j) % 2 == 1;
@@ -38,10 +39,12 @@ fn unlike_ended(word: u64, before: Sim, after: Sim) -> u64 {
             n = n % 64 + 1;
         }
     }
-    n as u64
+    n
 }
 
-fn fault(wrong: bool, weight: u64) -> u64 {
+fn fault(wrong: bool, weight: u64) -> u64
+    ensures { λ r. ⌜ r < 1000000 ⌝ }
+{
     if wrong { weight % 1000000 } else { 0 }
 }
 
@@ -86,7 +89,12 @@ pub(crate) fn try_step(t: Tally, inp: Input, tasks: &[u32], jobs: &[u32], rec: R
     let counted = t.late_refusal(want);
     if key == FINE {
         let s = taken_up(rec, jobs);
-        counted.plus(STEPS).note(inp, b"step from a record", 0, step_faults(got, s, inp.se, tasks, jobs))
+        counted.plus(STEPS).note(
+            inp,
+            b"step from a record",
+            0,
+            step_faults(got, s, inp.se, tasks, jobs),
+        )
     } else {
         counted.note(inp, b"step refused", 0, refused_faults(got, jobs, want))
     }
@@ -110,7 +118,9 @@ fn one_more(now: Stepping, inp: Input, tasks: &[u32], jobs: &[u32]) -> Stepping 
     let next = leap(s, inp.se, tasks, jobs, x, s.now % 65536 + 1);
     let ending = if got.ended == 0 { 0 } else { 1 };
     Stepping {
-        t: t.note(inp, b"step", 0, faults).plus(STEPS).more(ENDING_STEPS, ending),
+        t: t.note(inp, b"step", 0, faults)
+            .plus(STEPS)
+            .more(ENDING_STEPS, ending),
         record,
         s: next,
     }

@@ -1,4 +1,5 @@
 // Task tables and job lists that are good: short, with many ties, overloads, and instants that coincide.
+ghost use Prim.Native.Nat.{_<_};
 use crate::draw::draw;
 use crate::draw::rarely;
 use crate::list::List;
@@ -26,22 +27,40 @@ fn span(trial: u32, place: u32, most: u32) -> u32 {
 }
 
 // Z at its ends or between them.
-fn offset(trial: u32, place: u32, d: u32) -> u32 {
+fn offset(trial: u32, place: u32, d: u32) -> u32
+    requires { ⌜ place < 60000 ⌝ }
+{
     let kind = draw(trial, place, 4);
     if kind == 0 {
         return 0;
     }
-    if kind == 1 { d } else { draw(trial, place + 1, d % 65536 + 1) }
+    if kind == 1 {
+        d
+    } else {
+        draw(trial, place + 1, d % 65536 + 1)
+    }
 }
 
 // A task's times lie in a range that is drawn for the trial, up to the most that is allowed.
 fn add_task(tasks: List, trial: u32, k: u32) -> List {
     let place = 1000 + 32 * (k % 64);
     let range = 3 + draw(trial, 1, 20);
-    let t = pick(rarely(trial, place, 40), 16384, 1 + draw(trial, place + 1, range));
-    let d = pick(rarely(trial, place + 2, 2), t, 1 + draw(trial, place + 3, t));
+    let t = pick(
+        rarely(trial, place, 40),
+        16384,
+        1 + draw(trial, place + 1, range),
+    );
+    let d = pick(
+        rarely(trial, place + 2, 2),
+        t,
+        1 + draw(trial, place + 3, t),
+    );
     let co = 1 + draw(trial, place + 4, smaller(range, 16384));
-    let c = pick(rarely(trial, place + 5, 3), co, 1 + draw(trial, place + 6, co));
+    let c = pick(
+        rarely(trial, place + 5, 3),
+        co,
+        1 + draw(trial, place + 6, co),
+    );
     let criticality = draw(trial, place + 7, span(trial, 2, 256));
     let priority = draw(trial, place + 8, span(trial, 3, 64));
     let z = offset(trial, place + 9, d);
@@ -84,7 +103,9 @@ fn first_task(m: Making, trial: u32, j: u32, count: u32) -> u32 {
 }
 
 // An execution time at one of the ends that matter, or between them.
-fn work(trial: u32, place: u32, c: u32, co: u32) -> u32 {
+fn work(trial: u32, place: u32, c: u32, co: u32) -> u32
+    requires { ⌜ place < 60000 ⌝ }
+{
     let kind = draw(trial, place, 8);
     if kind == 0 {
         return 0;
@@ -95,7 +116,11 @@ fn work(trial: u32, place: u32, c: u32, co: u32) -> u32 {
     if kind == 2 {
         return smaller(c % 65536 + 1, co);
     }
-    if kind < 5 { co } else { draw(trial, place + 1, co % 65536 + 1) }
+    if kind < 5 {
+        co
+    } else {
+        draw(trial, place + 1, co % 65536 + 1)
+    }
 }
 
 fn larger(a: u32, b: u32) -> u32 {
@@ -106,13 +131,18 @@ fn add_job(m: Making, tasks: List, trial: u32, j: u32, count: u32) -> Making {
     let place = 6000 + 8 * (j % 128);
     let k = first_task(m, trial, j, count) % 16;
     let row = 7 * (k as usize);
-    let late = pick(rarely(trial, place, 3), draw(trial, place + 1, 6), 0);
+    let late = draw(trial, place + 1, pick(rarely(trial, place, 3), 6, 1));
     let i = k as usize;
     let arrival = larger(m.last, m.soonest[i]) % 65536 + late;
     if 16384 < arrival {
         return m;
     }
-    let c = work(trial, place + 2, tasks.get(row + NOMINAL), tasks.get(row + OVERLOAD));
+    let c = work(
+        trial,
+        place + 2,
+        tasks.get(row + NOMINAL),
+        tasks.get(row + OVERLOAD),
+    );
     let before = m.jobs;
     let mut next = m;
     next.jobs = before.push(k).push(arrival).push(c);

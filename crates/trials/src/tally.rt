@@ -7,6 +7,7 @@ use crate::answers::NOT_LEGAL;
 use crate::answers::NOT_MISSED;
 use crate::answers::OPEN;
 use crate::answers::REFUSED;
+use crate::list::wide;
 use crate::print::Input;
 use crate::print::difference;
 use crate::print::print_input;
@@ -18,29 +19,51 @@ pub(crate) struct Tally {
 
 // What the counts stand for. Refusal r is counted at FIRST_REFUSAL + r.
 pub(crate) const INPUTS: usize = 0;
+
 pub(crate) const CALLS: usize = 1;
+
 pub(crate) const DIFFERENCES: usize = 2;
+
 pub(crate) const IDLE_TICKS: usize = 3;
+
 pub(crate) const BUSY_TICKS: usize = 4;
+
 pub(crate) const JOBS_MET: usize = 5;
+
 pub(crate) const JOBS_LATE: usize = 6;
+
 pub(crate) const JOBS_ENDED: usize = 7;
+
 pub(crate) const JOBS_OPEN: usize = 8;
+
 pub(crate) const WITNESS_NOT_MISSED: usize = 9;
+
 pub(crate) const WITNESS_ACCEPTED: usize = 10;
+
 pub(crate) const WITNESS_NOT_LEGAL: usize = 11;
+
 pub(crate) const CLAIM_LEGAL: usize = 12;
+
 pub(crate) const CLAIM_NOT_LEGAL: usize = 13;
+
 pub(crate) const PARTS_SHOWN: usize = 14;
+
 pub(crate) const PARTS_EMPTY: usize = 15;
+
 pub(crate) const TAKEN: usize = 16;
+
 pub(crate) const STEPS: usize = 17;
+
 pub(crate) const ENDING_STEPS: usize = 18;
+
 pub(crate) const NO_TICKS: usize = 19;
+
 pub(crate) const OTHER_RUNS: usize = 20;
 // Claims of kind k are counted at FIRST_KIND + 2 k where they are legal, and after it where they are not.
 pub(crate) const FIRST_KIND: usize = 24;
+
 pub(crate) const KINDS: u32 = 8;
+
 pub(crate) const FIRST_REFUSAL: usize = 40;
 
 pub(crate) fn nothing() -> Tally {
@@ -51,7 +74,7 @@ impl Tally {
     pub(crate) fn more(self, what: usize, by: u32) -> Tally {
         let mut next = self;
         if what < 64 {
-            let sum = (self.n[what] as u64) + (by as u64);
+            let sum = wide(self.n[what]) + wide(by);
             next.n[what] = (sum % 4294967296) as u32;
         }
         next
@@ -84,7 +107,14 @@ impl Tally {
     }
 
     // The same, of a call on a schedule, which is printed too.
-    pub(crate) fn note_on(self, inp: Input, line: &[u16], call: &[u8], want: u64, got: u64) -> Tally {
+    pub(crate) fn note_on(
+        self,
+        inp: Input,
+        line: &[u16],
+        call: &[u8],
+        want: u64,
+        got: u64,
+    ) -> Tally {
         let noted = self.note(inp, call, want, got);
         if want != got {
             schedule(line, inp.room);
@@ -107,7 +137,11 @@ impl Tally {
             return self;
         }
         let number = (answer - REFUSED) % 256;
-        if 10 < number { self.refusal(answer) } else { self }
+        if 10 < number {
+            self.refusal(answer)
+        } else {
+            self
+        }
     }
 
     pub(crate) fn claim(self, answer: u64) -> Tally {

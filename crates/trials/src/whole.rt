@@ -14,7 +14,7 @@ use crate::print::Input;
 use crate::runs::Want;
 use crate::runs::try_fresh;
 use crate::runs::try_run;
-use crate::runs::unlike;
+use crate::runs::unlike_lines;
 use crate::steps::try_step;
 use crate::steps::try_steps;
 use crate::tally::BUSY_TICKS;
@@ -42,7 +42,9 @@ fn count_ticks(t: Tally, line: Line, horizon: u32) -> Tally {
         }
     }
     let none = if horizon == 0 { 1 } else { 0 };
-    t.more(IDLE_TICKS, idle).more(BUSY_TICKS, busy).more(NO_TICKS, none)
+    t.more(IDLE_TICKS, idle)
+        .more(BUSY_TICKS, busy)
+        .more(NO_TICKS, none)
 }
 
 // The schedule of a kind: one change of our run, our run itself, or the run that takes the last of equals.
@@ -63,7 +65,15 @@ fn grown(after: u32, before: u32) -> u32 {
 }
 
 // One claim of a kind, its answer counted for its kind.
-fn try_kind(t: Tally, inp: Input, tasks: &[u32], jobs: &[u32], claimed: Line, kind: u32, every: usize) -> Tally {
+fn try_kind(
+    t: Tally,
+    inp: Input,
+    tasks: &[u32],
+    jobs: &[u32],
+    claimed: Line,
+    kind: u32,
+    every: usize,
+) -> Tally {
     let all = claimed.at;
     let line = front_of_line(&all, inp.room);
     let own = FIRST_KIND + 2 * ((kind % 8) as usize);
@@ -74,13 +84,20 @@ fn try_kind(t: Tally, inp: Input, tasks: &[u32], jobs: &[u32], claimed: Line, ki
     try_c_claim(counted, inp, tasks, jobs, plain(inp), line)
 }
 
-fn try_kinds(t: Tally, inp: Input, tasks: &[u32], jobs: &[u32], own: Line, trial: u32, every: usize) -> Tally {
+fn try_kinds(
+    t: Tally,
+    inp: Input,
+    tasks: &[u32],
+    jobs: &[u32],
+    own: Line,
+    trial: u32,
+    every: usize,
+) -> Tally {
     let mut now = t;
     for kind in 0..KINDS {
         let line = claimed(inp, tasks, jobs, own, kind, trial);
         now = try_kind(now, inp, tasks, jobs, line, kind, every);
-        let all = line.at;
-        if (kind == 7) & (0 < unlike(&all, own)) {
+        if (kind == 7) & (0 < unlike_lines(line, own)) {
             now = now.plus(OTHER_RUNS);
         }
     }
@@ -93,7 +110,15 @@ fn fresh_of(rec: Record, tasks: &[u32], jobs: &[u32]) -> Record {
 }
 
 // A good input, of which it is known what its run comes to.
-pub(crate) fn try_whole(t: Tally, inp: Input, tasks: &[u32], jobs: &[u32], want: Want, trial: u32, every: usize) -> Tally {
+pub(crate) fn try_whole(
+    t: Tally,
+    inp: Input,
+    tasks: &[u32],
+    jobs: &[u32],
+    want: Want,
+    trial: u32,
+    every: usize,
+) -> Tally {
     let own = want.line;
     let ran = try_run(t, inp, tasks, jobs, want);
     let rec = ran.record;
@@ -108,7 +133,14 @@ pub(crate) fn try_whole(t: Tally, inp: Input, tasks: &[u32], jobs: &[u32], want:
 }
 
 // An input that may be refused, through every call, from any record.
-pub(crate) fn try_refused(t: Tally, inp: Input, tasks: &[u32], jobs: &[u32], want: Want, rec: Record) -> Tally {
+pub(crate) fn try_refused(
+    t: Tally,
+    inp: Input,
+    tasks: &[u32],
+    jobs: &[u32],
+    want: Want,
+    rec: Record,
+) -> Tally {
     let own = want.line;
     let all = own.at;
     let line = front_of_line(&all, inp.room);
