@@ -73,7 +73,10 @@ pub(crate) fn try_verdict(
         .note(inp, b"verdict", want, got)
 }
 
-// The verdicts on all jobs, and on one beyond the list.
+// A number beyond every list, which in 16 bits would be 0.
+const FAR_JOB: u32 = 65536;
+
+// The verdicts on all jobs, and on two beyond the list.
 pub(crate) fn try_verdicts(
     t: Tally,
     inp: Input,
@@ -82,7 +85,7 @@ pub(crate) fn try_verdicts(
     rec: Record,
 ) -> Tally {
     let n = jobs.len() / 3;
-    let mut now = t;
+    let mut now = try_verdict(t, inp, tasks, jobs, rec, FAR_JOB);
     for j in 0..65 {
         if (j as usize) <= n {
             now = try_verdict(now, inp, tasks, jobs, rec, j);
@@ -222,7 +225,7 @@ fn try_witness(
     )
 }
 
-// A claim, and with it the witness and the part of every so-many-th job, and of one beyond the list.
+// A claim, and with it the witness and the part of every so-many-th job, and of two beyond the list.
 pub(crate) fn try_claim(
     t: Tally,
     inp: Input,
@@ -248,7 +251,7 @@ fn try_witnesses(
     every: usize,
 ) -> Tally {
     let n = jobs.len() / 3;
-    let mut now = t;
+    let mut now = try_witness(t, inp, tasks, jobs, line, judged, FAR_JOB);
     for j in 0..65 {
         if picked(j as usize, n, every) {
             now = try_witness(now, inp, tasks, jobs, line, judged, j);

@@ -24,6 +24,10 @@ struct Bytes {
     at: [u8; 1040],
 }
 
+fn no_bytes() -> Bytes {
+    Bytes { at: [0; 1040] }
+}
+
 fn byte(x: u32, place: u32) -> u8 {
     if place == 0 {
         return (x % 256) as u8;
@@ -38,7 +42,7 @@ fn byte(x: u32, place: u32) -> u8 {
 }
 
 fn list_bytes(list: &[u32]) -> Bytes {
-    let mut b = Bytes { at: [0; 1040] };
+    let mut b = no_bytes();
     for i in 0..1040 {
         b.at[i] = byte(at(list, i / 4), (i % 4) as u32);
     }
@@ -46,7 +50,7 @@ fn list_bytes(list: &[u32]) -> Bytes {
 }
 
 fn line_bytes(line: &[u16]) -> Bytes {
-    let mut b = Bytes { at: [0; 1040] };
+    let mut b = no_bytes();
     for i in 0..1040 {
         b.at[i] = byte(entry_at(line, i / 2) as u32, (i % 2) as u32);
     }

@@ -12,7 +12,7 @@ use crate::list::OWNER;
 use crate::list::PERIOD;
 use crate::print::Input;
 
-// A number just beyond a bound, or far beyond it, where only its low bits would pass.
+// A number at a bound, just beyond it, or far beyond it, where only its low bits would pass.
 fn beyond(trial: u32, place: u32, most: u32) -> u32 {
     let near = most % 65536 + 1;
     let kind = draw(trial, place, 6);
@@ -22,7 +22,10 @@ fn beyond(trial: u32, place: u32, most: u32) -> u32 {
     if kind == 1 {
         return 65536 + near;
     }
-    if kind == 2 { 2147483648 + near } else { near }
+    if kind == 2 {
+        return 2147483648 + near;
+    }
+    if kind == 3 { most } else { near }
 }
 
 // The number above another, where there is one.

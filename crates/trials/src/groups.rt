@@ -9,6 +9,8 @@ use crate::cside::try_c_run;
 use crate::damage::damaged;
 use crate::draw::draw;
 use crate::draw::rarely;
+use crate::lines::changed;
+use crate::list::Line;
 use crate::list::front;
 use crate::list::front_of_line;
 use crate::print::Input;
@@ -71,7 +73,7 @@ fn record_trial(
 // A mode that is none, mostly; or lists that are not whole.
 fn handed(inp: Input, trial: u32) -> Handed {
     let mut h = plain(inp);
-    let kind = draw(trial, 40, 6);
+    let kind = draw(trial, 40, 10);
     if kind == 0 {
         h.mode = 2 + draw(trial, 41, 300);
     }
@@ -90,9 +92,21 @@ fn handed(inp: Input, trial: u32) -> Handed {
     h
 }
 
+// Our run's schedule, or one with a change.
+fn c_line(own: Line, inp: Input, jobs: &[u32], trial: u32) -> Line {
+    let kind = draw(trial, 46, 12);
+    let n = ((jobs.len() / 3) % 128) as u32;
+    if kind < 6 {
+        changed(own, kind, trial, n, inp.horizon)
+    } else {
+        own
+    }
+}
+
 fn c_trial(t: Tally, inp: Input, tasks: &[u32], jobs: &[u32], want: Want, trial: u32) -> Tally {
     let own = want.line;
-    let all = own.at;
+    let claimed = c_line(own, inp, jobs, trial);
+    let all = claimed.at;
     let line = front_of_line(&all, inp.room);
     let h = handed(inp, trial);
     let counted = t.refusal(c_refusal(h, inp, tasks, jobs));
@@ -181,7 +195,7 @@ fn damaged_group(name: &[u8], kind: u32, se: bool, n: u32) -> Tally {
 fn record_group(name: &[u8], se: bool, n: u32) -> Tally {
     let t = trials(ALTERED, se, n);
     head(name, t);
-    records(t);
+    records(t, se);
     t
 }
 
@@ -197,8 +211,8 @@ fn damaged_groups() -> Tally {
     let b = a.with(damaged_group(b"damaged SE", DAMAGED, true, 700));
     let c = b.with(damaged_group(b"twice damaged S", TWICE_DAMAGED, false, 500));
     let d = c.with(damaged_group(b"twice damaged SE", TWICE_DAMAGED, true, 500));
-    let e = d.with(damaged_group(b"from C, S", FROM_C, false, 400));
-    e.with(damaged_group(b"from C, SE", FROM_C, true, 400))
+    let e = d.with(damaged_group(b"from C, S", FROM_C, false, 600));
+    e.with(damaged_group(b"from C, SE", FROM_C, true, 600))
 }
 
 fn record_groups() -> Tally {

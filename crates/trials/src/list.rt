@@ -79,6 +79,17 @@ impl List {
     }
 }
 
+// The numbers of a slice.
+pub(crate) fn list_of(numbers: &[u32]) -> List {
+    let mut list = no_list();
+    for i in 0..224 {
+        if i < numbers.len() {
+            list = list.push(at(numbers, i));
+        }
+    }
+    list
+}
+
 // A number in 64 bits, where sums of a few fit.
 pub(crate) fn wide(x: u32) -> u64
     ensures { λ r. ⌜ r < 4294967296 ⌝ }

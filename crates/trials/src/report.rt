@@ -2,6 +2,8 @@
 use crate::print::count;
 use crate::print::text;
 use crate::tally::BUSY_TICKS;
+use crate::tally::C_LEGAL;
+use crate::tally::C_NOT_LEGAL;
 use crate::tally::CALLS;
 use crate::tally::CLAIM_LEGAL;
 use crate::tally::CLAIM_NOT_LEGAL;
@@ -38,7 +40,7 @@ pub(crate) fn head(name: &[u8], t: Tally) {
 pub(crate) fn runs(t: Tally, se: bool) {
     count(b"  ticks idle ", t.get(IDLE_TICKS));
     count(b", busy ", t.get(BUSY_TICKS));
-    count(b"; horizons 0 ", t.get(NO_TICKS));
+    count(b", runs of no tick ", t.get(NO_TICKS));
     count(b"; steps ", t.get(STEPS));
     if se {
         count(b", ending a job ", t.get(ENDING_STEPS));
@@ -53,7 +55,7 @@ fn verdicts(t: Tally, se: bool) {
     if se {
         count(b", ended ", t.get(JOBS_ENDED));
     }
-    count(b"; beyond the list ", t.get(FIRST_REFUSAL + 13));
+    count(b"; refused 13: ", t.get(FIRST_REFUSAL + 13));
     text(b"\n");
 }
 
@@ -71,8 +73,14 @@ pub(crate) fn claims(t: Tally) {
     count(b"; our runs ", t.get(FIRST_KIND + 12));
     count(b"; last of equals ", t.get(FIRST_KIND + 14));
     count(b", unlike ours ", t.get(OTHER_RUNS));
+    from_c(t);
     kinds(t);
     witnesses(t);
+}
+
+fn from_c(t: Tally) {
+    count(b"; from C legal ", t.get(C_LEGAL));
+    count(b", not legal ", t.get(C_NOT_LEGAL));
 }
 
 fn kinds(t: Tally) {
@@ -104,11 +112,12 @@ pub(crate) fn refusals(t: Tally) {
         }
     }
     count(b"; taken ", t.get(TAKEN));
+    from_c(t);
     text(b"\n");
 }
 
 // Steps and verdicts from altered records.
-pub(crate) fn records(t: Tally) {
+pub(crate) fn records(t: Tally, se: bool) {
     count(b"  steps taken ", t.get(STEPS));
     count(b"; refused 11: ", t.get(FIRST_REFUSAL + 11));
     count(b", 12: ", t.get(FIRST_REFUSAL + 12));
@@ -116,6 +125,8 @@ pub(crate) fn records(t: Tally) {
     count(b"; verdicts met ", t.get(JOBS_MET));
     count(b", late ", t.get(JOBS_LATE));
     count(b", open ", t.get(JOBS_OPEN));
-    count(b", ended ", t.get(JOBS_ENDED));
+    if se {
+        count(b", ended ", t.get(JOBS_ENDED));
+    }
     text(b"\n");
 }

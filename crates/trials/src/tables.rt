@@ -82,10 +82,11 @@ fn make_tasks(trial: u32, count: u32) -> List {
     tasks
 }
 
-// The jobs so far, the last arrival, and for each task the soonest that it may come again.
+// The jobs so far, the last arrival, the work of them all, and for each task the soonest that it may come again.
 struct Making {
     jobs: List,
     last: u32,
+    work: u32,
     soonest: [u32; 16],
 }
 
@@ -147,6 +148,7 @@ fn add_job(m: Making, tasks: List, trial: u32, j: u32, count: u32) -> Making {
     let mut next = m;
     next.jobs = before.push(k).push(arrival).push(c);
     next.last = arrival;
+    next.work = m.work % 65536 + c % 65536;
     next.soonest[i] = arrival + tasks.get(row + PERIOD) % 65536;
     next
 }
@@ -156,6 +158,7 @@ fn make_jobs(tasks: List, trial: u32, count: u32, jobs: u32) -> Making {
     let mut m = Making {
         jobs: list,
         last: 0,
+        work: 0,
         soonest: [0; 16],
     };
     for j in 0..jobs {
@@ -165,7 +168,7 @@ fn make_jobs(tasks: List, trial: u32, count: u32, jobs: u32) -> Making {
 }
 
 // A horizon that lets the jobs finish, or cuts some off, or is 0.
-fn horizon(trial: u32, last: u32) -> u32 {
+fn horizon(trial: u32, last: u32, work: u32) -> u32 {
     let kind = draw(trial, 5, 12);
     if kind == 0 {
         return 0;
@@ -173,14 +176,14 @@ fn horizon(trial: u32, last: u32) -> u32 {
     if kind < 4 {
         return smaller(1 + draw(trial, 6, last % 65536 + 1), 500);
     }
-    smaller(last % 65536 + draw(trial, 7, 40), 500)
+    smaller(last % 65536 + draw(trial, 7, work % 65536 + 8), 500)
 }
 
 fn make_input(trial: u32, se: bool, count: u32, most: u32) -> Input {
     let tasks = make_tasks(trial, count);
     let made = make_jobs(tasks, trial, count, most);
     let jobs = made.jobs;
-    let h = horizon(trial, made.last);
+    let h = horizon(trial, made.last, made.work);
     Input {
         se,
         horizon: h,

@@ -59,6 +59,10 @@ pub(crate) const ENDING_STEPS: usize = 18;
 pub(crate) const NO_TICKS: usize = 19;
 
 pub(crate) const OTHER_RUNS: usize = 20;
+
+pub(crate) const C_LEGAL: usize = 21;
+
+pub(crate) const C_NOT_LEGAL: usize = 22;
 // Claims of kind k are counted at FIRST_KIND + 2 k where they are legal, and after it where they are not.
 pub(crate) const FIRST_KIND: usize = 24;
 
@@ -158,10 +162,10 @@ impl Tally {
     // The same, as the call from C packs it.
     pub(crate) fn c_claim(self, answer: u64) -> Tally {
         if NOT_LEGAL <= answer {
-            return self.plus(CLAIM_NOT_LEGAL);
+            return self.plus(C_NOT_LEGAL);
         }
         if answer == 0 {
-            self.plus(CLAIM_LEGAL)
+            self.plus(C_LEGAL)
         } else {
             self
         }

@@ -22,8 +22,8 @@ use crate::list::Line;
 use crate::list::front;
 use crate::list::front_of_line;
 use crate::list::job;
+use crate::list::list_of;
 use crate::list::no_line;
-use crate::list::no_list;
 use crate::print::Input;
 use crate::runs::Want;
 use crate::runs::blank_record;
@@ -75,14 +75,32 @@ fn less(a: u32, b: u32) -> u32 {
     if b < a { a - b } else { 0 }
 }
 
-// The end that a picture and the fates of up to four jobs describe.
-fn end_drawn(jobs: &[u32], picture: &[u8], fates: [u32; 4], horizon: u32) -> Sim {
+// The fate of a job, by the letter of its verdict and its instant, which is 0 where it has none.
+fn fate_meant(byte: u8, instant: u32) -> u32 {
+    if instant == 0 {
+        return 0;
+    }
+    if byte == b'e' {
+        ended(instant)
+    } else {
+        finished(instant)
+    }
+}
+
+// The end that a picture, the verdicts and the instants of up to four jobs describe.
+fn end_drawn(
+    jobs: &[u32],
+    picture: &[u8],
+    letters: &[u8],
+    instants: [u32; 4],
+    horizon: u32,
+) -> Sim {
     let mut s = begin(jobs);
     s.now = horizon;
     for j in 0..4 {
         if j < jobs.len() / 3 {
             s.left[j] = less(job(jobs, j, EXECUTION), times(picture, j));
-            s.fate[j] = fates[j];
+            s.fate[j] = fate_meant(letter(letters, j), instants[j]);
         }
     }
     s
@@ -123,22 +141,24 @@ fn try_letters(
     now
 }
 
-// A row of the table: a run with its fates, a claim with its answer, or a refusal, packed.
+// What a row of the table says: a run's instants, a claim's answer, or a refusal, packed.
 struct Row {
     kind: u32,
     answer: u64,
-    fates: [u32; 4],
+    instants: [u32; 4],
 }
 
 const RUN: u32 = 0;
 
 const CLAIM: u32 = 1;
 
-fn ends(a: u32, b: u32, c: u32, d: u32) -> Row {
+const REFUSAL: u32 = 2;
+
+fn ends(instants: [u32; 4]) -> Row {
     Row {
         kind: RUN,
         answer: 0,
-        fates: [a, b, c, d],
+        instants,
     }
 }
 
@@ -146,15 +166,15 @@ fn claims(answer: u64) -> Row {
     Row {
         kind: CLAIM,
         answer,
-        fates: [0; 4],
+        instants: [0; 4],
     }
 }
 
 fn refuses(number: u32, place: u32) -> Row {
     Row {
-        kind: 2,
+        kind: REFUSAL,
         answer: (number % 256 + 256 * (place % 64)) as u64,
-        fates: [0; 4],
+        instants: [0; 4],
     }
 }
 
@@ -210,8 +230,8 @@ fn try_row(
     let own = expected(inp, tasks, jobs);
     let line = drawn(picture);
     if row.kind == RUN {
-        let fates = row.fates;
-        let end = end_drawn(jobs, picture, fates, inp.horizon);
+        let instants = row.instants;
+        let end = end_drawn(jobs, picture, letters, instants, inp.horizon);
         let want = Want {
             key: FINE,
             line,
@@ -245,165 +265,89 @@ fn try_case(t: Tally, inp: Input, row: Row, picture: &[u8], letters: &[u8]) -> T
 
 // List A, the middle execution time and the last arrival being given.
 fn list_a(se: bool, c: u32, arrival: u32, horizon: u32) -> Input {
-    let first = no_list()
-        .push(8)
-        .push(8)
-        .push(4)
-        .push(4)
-        .push(1)
-        .push(2)
-        .push(4);
-    let tasks = first
-        .push(20)
-        .push(16)
-        .push(5)
-        .push(10)
-        .push(2)
-        .push(1)
-        .push(10);
-    let two = no_list().push(0).push(0).push(4).push(1).push(0).push(c);
-    let jobs = two.push(0).push(arrival).push(4);
+    let table = [8, 8, 4, 4, 1, 2, 4, 20, 16, 5, 10, 2, 1, 10];
+    let list = [0, 0, 4, 1, 0, c, 0, arrival, 4];
     Input {
         se,
         horizon,
         room: horizon as usize,
-        tasks,
-        jobs,
+        tasks: list_of(&table),
+        jobs: list_of(&list),
     }
 }
 
+// A case of list A in mode S, by the middle execution time.
+fn in_s(t: Tally, c: u32, h: u32, instants: [u32; 4], picture: &[u8], letters: &[u8]) -> Tally {
+    try_case(t, list_a(false, c, 8, h), ends(instants), picture, letters)
+}
+
+fn in_se(t: Tally, c: u32, h: u32, instants: [u32; 4], picture: &[u8], letters: &[u8]) -> Tally {
+    try_case(t, list_a(true, c, 8, h), ends(instants), picture, letters)
+}
+
 fn cases_in_s(t: Tally) -> Tally {
-    let one = try_case(
-        t,
-        list_a(false, 5, 8, 16),
-        ends(finished(4), finished(11), finished(13), 0),
-        b"0000111122122...",
-        b"mmm",
-    );
-    let two = try_case(
-        one,
-        list_a(false, 10, 8, 18),
-        ends(finished(4), finished(16), finished(18), 0),
-        b"000011112211111122",
-        b"mml",
-    );
-    let three = try_case(
-        two,
-        list_a(false, 10, 8, 16),
-        ends(finished(4), finished(16), 0, 0),
-        b"0000111122111111",
-        b"mml",
-    );
-    let four = try_case(
-        three,
-        list_a(false, 10, 8, 15),
-        ends(finished(4), 0, 0, 0),
-        b"000011112211111",
-        b"moo",
-    );
-    try_case(
-        four,
-        list_a(false, 6, 8, 16),
-        ends(finished(4), finished(12), finished(14), 0),
-        b"00001111221122..",
-        b"mmm",
-    )
+    let a = in_s(t, 5, 16, [4, 11, 13, 0], b"0000111122122...", b"mmm");
+    let b = in_s(a, 10, 18, [4, 16, 18, 0], b"000011112211111122", b"mml");
+    let c = in_s(b, 10, 16, [4, 16, 0, 0], b"0000111122111111", b"mml");
+    let d = in_s(c, 10, 15, [4, 0, 0, 0], b"000011112211111", b"moo");
+    in_s(d, 6, 16, [4, 12, 14, 0], b"00001111221122..", b"mmm")
 }
 
 fn cases_in_se(t: Tally) -> Tally {
-    let five = try_case(
-        t,
-        list_a(true, 10, 8, 18),
-        ends(finished(4), finished(16), ended(11), 0),
-        b"0000111122111111..",
-        b"mme",
-    );
-    let six = try_case(
-        five,
-        list_a(true, 6, 8, 16),
-        ends(finished(4), finished(12), ended(11), 0),
-        b"000011112211....",
-        b"mme",
-    );
-    let seven = try_case(
-        six,
-        list_a(true, 5, 8, 16),
-        ends(finished(4), finished(11), finished(13), 0),
-        b"0000111122122...",
-        b"mmm",
-    );
-    let mut nine = list_a(true, 10, 8, 20);
-    let jobs = nine.jobs;
-    nine.jobs = jobs.push(0).push(16).push(4);
+    let a = in_se(t, 10, 18, [4, 16, 11, 0], b"0000111122111111..", b"mme");
+    let b = in_se(a, 6, 16, [4, 12, 11, 0], b"000011112211....", b"mme");
+    in_se(b, 5, 16, [4, 11, 13, 0], b"0000111122122...", b"mmm")
+}
+
+// A fourth job.
+fn case_9(t: Tally) -> Tally {
+    let mut inp = list_a(true, 10, 8, 20);
+    let jobs = inp.jobs;
+    inp.jobs = jobs.push(0).push(16).push(4);
     try_case(
-        seven,
-        nine,
-        ends(finished(4), finished(16), ended(11), finished(20)),
+        t,
+        inp,
+        ends([4, 16, 11, 20]),
         b"00001111221111113333",
         b"mmem",
     )
 }
 
 // Two equal tasks with a job each.
-fn twins(se: bool) -> Input {
-    let first = no_list()
-        .push(10)
-        .push(10)
-        .push(3)
-        .push(3)
-        .push(1)
-        .push(1)
-        .push(10);
-    let tasks = first
-        .push(10)
-        .push(10)
-        .push(3)
-        .push(3)
-        .push(1)
-        .push(1)
-        .push(10);
-    let jobs = no_list().push(0).push(0).push(3).push(1).push(0).push(3);
-    Input {
+fn case_10(t: Tally, se: bool) -> Tally {
+    let table = [10, 10, 3, 3, 1, 1, 10, 10, 10, 3, 3, 1, 1, 10];
+    let list = [0, 0, 3, 1, 0, 3];
+    let inp = Input {
         se,
         horizon: 6,
         room: 6,
-        tasks,
-        jobs,
-    }
-}
-
-fn case_10(t: Tally, se: bool) -> Tally {
-    let inp = twins(se);
-    let run = try_case(
-        t,
-        inp,
-        ends(finished(3), finished(6), 0, 0),
-        b"000111",
-        b"mm",
-    );
+        tasks: list_of(&table),
+        jobs: list_of(&list),
+    };
+    let run = try_case(t, inp, ends([3, 6, 0, 0]), b"000111", b"mm");
     let other = try_case(run, inp, claims(0), b"111000", b"");
     try_case(other, inp, claims(NOT_LEGAL + 1), b"010101", b"")
 }
 
-// Z of task 1 is given.
-fn list_a_with(z: u32) -> Input {
+// Horizon 0.
+fn case_11(t: Tally) -> Tally {
+    let s = in_s(t, 5, 0, [0; 4], b"", b"ooo");
+    in_se(s, 5, 0, [0; 4], b"", b"ooo")
+}
+
+// Case 12's arrival 8 is case 1.
+fn cases_refused(t: Tally) -> Tally {
+    let twelve = try_case(t, list_a(false, 5, 7, 16), refuses(8, 2), b"", b"");
+    let work = try_case(twelve, list_a(false, 11, 8, 16), refuses(6, 1), b"", b"");
     let mut inp = list_a(false, 5, 8, 16);
     let tasks = inp.tasks;
-    inp.tasks = tasks.with(13, z);
-    inp
+    inp.tasks = tasks.with(13, 17);
+    try_case(work, inp, refuses(4, 1), b"", b"")
 }
 
-fn cases_of_edges(t: Tally) -> Tally {
-    let s = case_10(t, false);
-    let se = case_10(s, true);
-    let eleven = try_case(se, list_a(false, 5, 8, 0), ends(0, 0, 0, 0), b"", b"ooo");
-    let again = try_case(eleven, list_a(true, 5, 8, 0), ends(0, 0, 0, 0), b"", b"ooo");
-    let twelve = try_case(again, list_a(false, 5, 7, 16), refuses(8, 2), b"", b"");
-    let thirteen = try_case(twelve, list_a(false, 11, 8, 16), refuses(6, 1), b"", b"");
-    try_case(thirteen, list_a_with(17), refuses(4, 1), b"", b"")
-}
-
-// Cases 1 to 13; 12's arrival 8 is case 1.
+// Cases 1 to 13.
 pub(crate) fn traced(t: Tally) -> Tally {
-    cases_of_edges(cases_in_se(cases_in_s(t)))
+    let nine = case_9(cases_in_se(cases_in_s(t)));
+    let ten = case_10(case_10(nine, false), true);
+    cases_refused(case_11(ten))
 }

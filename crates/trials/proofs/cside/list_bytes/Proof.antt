@@ -11,4 +11,4 @@ abbrev μ-loop : tie.MeasureT-loop
 μ-loop list b₀ i₀ b i = 1040 - i
 
 pub list-bytes-spec : {M : Type 1} → statement M
-list-bytes-spec = tie.close (tie.spec Inv-loop μ-loop (λ c. search needs) (λ c κs. search needs) (λ c. search needs) (λ c κs. search needs) (λ c. search needs) (λ c. search needs) (λ c. search needs) (λ c. search needs) (λ c. search needs))
+list-bytes-spec = tie.close (tie.spec Inv-loop μ-loop (λ c κs. search needs) (λ c. search needs) (λ c κs. search needs) (λ c. search needs) (λ c κs. search needs) (λ c. search needs) (λ c. search needs) (λ c. search needs) (λ c. search needs) (λ c. search needs))

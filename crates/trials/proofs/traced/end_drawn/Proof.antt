@@ -5,10 +5,10 @@ use Rattle.trials.proofs.traced.end_drawn.Statement.{statement}
 use Rattle.trials.proofs.traced.end_drawn.Tie as tie
 
 abbrev Inv-loop : tie.InvT-loop
-Inv-loop jobs picture horizon fates s₀ j₀ s j = 0 ≤ 0
+Inv-loop jobs picture letters horizon instants s₀ j₀ s j = 0 ≤ 0
 
 abbrev μ-loop : tie.MeasureT-loop
-μ-loop jobs picture horizon fates s₀ j₀ s j = 4 - j
+μ-loop jobs picture letters horizon instants s₀ j₀ s j = 4 - j
 
 pub end-drawn-spec : {M : Type 1} → statement M
-end-drawn-spec = tie.close (tie.spec Inv-loop μ-loop (λ c κs. search needs) (λ c. search needs) (λ c κs. search needs) (λ c κs. search needs) (λ c κs. search needs) (λ c. search needs) (λ c. search needs) (λ c. search needs) (λ c. search needs) (λ c. search needs) (λ c. search needs) (λ c. search needs) (λ c. search needs) (λ c. search needs) (λ c. search needs))
+end-drawn-spec = tie.close (tie.spec Inv-loop μ-loop (λ c κs. search needs) (λ c. search needs) (λ c κs. search needs) (λ c κs. search needs) (λ c κs. search needs) (λ c. search needs) (λ c. search needs) (λ c κs. search needs) (λ c. search needs) (λ c. search needs) (λ c κs. search needs) (λ c. search needs) (λ c. search needs) (λ c. search needs) (λ c. search needs) (λ c. search needs) (λ c. search needs))
