@@ -4,3 +4,4 @@ pub mod Most
 pub mod Word
 pub mod Readings
 pub mod Arrays
+pub mod Unique

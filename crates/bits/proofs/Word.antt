@@ -247,11 +247,7 @@ module _ (ok : ℕ → Bool) (key : ℕ → ℕ) where
       word-same (λ p. keyed i p || eqb p (key i)) (keyed (suc i)) n
       (λ p _. rw e (or-comm (keyed i p) (eqb p (key i)) ∙ ap (λ (b : Bool). b || keyed i p) (eqb-swap p (key i))))
 
-  -- a thing that is ok sets its bit by `|`
-  pub keyed-set : (n i : ℕ) → ok i ≡ true → key i < n → bitOr (word n (keyed i)) (2 ^ key i) ≡ word n (keyed (suc i))
-  keyed-set n i e l = or-word (keyed i) n (key i) l ∙ keyed-next n i e
-
-  -- or by `with_bit`, whatever its key
+  -- a thing that is ok sets its bit, whatever its key
   pub keyed-with : (i : ℕ) → ok i ≡ true → withBit (word 64 (keyed i)) (key i) ≡ word 64 (keyed (suc i))
   keyed-with i e = withBit-word (keyed i) (key i) ∙ keyed-next 64 i e
 

@@ -1,4 +1,5 @@
 pub mod Promise
+pub mod Unique
 pub mod Readings
 pub mod Traced
 pub mod Laws

@@ -56,7 +56,6 @@ apart : {A : Type 0} → _≡_ {A = ℕ} 0 1 → A
 apart z = absurd (omega arith)
 
 se-reads : (m : Mode) → isSE m ≡ true ↔ m ≡ SE
-unfolding isSE
 se-reads S = (λ h. apart (cc), λ e. apart (cc))
 se-reads SE = (λ h. refl, λ e. refl)
 
@@ -164,7 +163,7 @@ pub record Consistent (g : Given) (r : Record) : Type 0 where
   pub jobs : EveryJob g (λ j. SoundJob (g .mode) (r .tick) (arrival (g .jobs) j) (execution (g .jobs) j) (doneAt r j) (standingAt r j))
 
 pub consistent-reads : (g : Given) (r : Record) → jobCount (g .jobs) ≤ 64 → consistent g r ≡ true ↔ Consistent g r
-unfolding consistent arrived isSE
+unfolding consistent arrived
 consistent-reads g r few = (there, back)
   where
     Place : ℕ → Standing → Type 0
@@ -258,7 +257,7 @@ consistent-reads g r few = (there, back)
 
 -- "At tick t a job is alive if arrived, neither finished nor ended."
 pub alive-reads : (r : Record) (j : ℕ) → alive r j ≡ true ↔ standingAt r j ≡ Unfinished
-unfolding alive unfinished
+unfolding alive
 alive-reads r j = go (standingAt r j)
   where
     go : (s : Standing) → unfinished s ≡ true ↔ s ≡ Unfinished
@@ -384,7 +383,7 @@ module _ (g : Given) (r : Record) where
 
   pub schedulingInstant-reads : (p : ℕ) → schedulingInstant g r p ≡ true
       ↔ SomeJob g (λ j. (arrival (g .jobs) j ≡ r .tick) ⊎ (standingAt r j ≡ Finished (r .tick)) ⊎ (zeroSlackInstant g j ≡ r .tick) ⊎ Reached p j)
-  unfolding schedulingInstant someJob turns finishedAt
+  unfolding schedulingInstant someJob turns
   schedulingInstant-reads p =
       some-reads _ (λ j. simp or-assoc (or-reads (eq-reads _ _) (or-reads (finished (standingAt r j)) (or-reads (eq-reads _ _) (reached j)))))
     where
@@ -523,7 +522,6 @@ verdict-reads g r j v = (λ e. subst J e (holds (standingAt r j) refl), back v)
 
 -- "Missed means late or ended."
 pub missed-reads : (v : Verdict) → missed v ≡ true ↔ (v ≡ verdicts.Late) ⊎ (v ≡ verdicts.Ended)
-unfolding missed
 missed-reads v = (there v, ⊎-elim (λ e. rw e) (λ e. rw e))
   where
     there : (v : Verdict) → missed v ≡ true → (v ≡ verdicts.Late) ⊎ (v ≡ verdicts.Ended)
@@ -541,7 +539,7 @@ Answered g es j witnesses.Accepted = (claim g es ≡ Legal) × (missed (verdict 
 Answered g es j (witnesses.Refused number place) = ⊥
 
 pub witness-reads : (g : Given) (es : List ℕ) (j : ℕ) (w : Witness) → witness g es j ≡ w ↔ Answered g es j w
-unfolding witness answered
+unfolding witness
 witness-reads g es j w = (λ e. subst (λ (x : Witness). Answered g es j x) e (holds (claim g es) refl b refl), back w)
   where
     b : Bool

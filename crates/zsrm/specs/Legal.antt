@@ -18,14 +18,14 @@ finishedAt t Unfinished = false
 finishedAt t (Finished f) = eqb f t
 finishedAt t (Ended e) = false
 
--- r is the record at the tick, p the entry before it.
-module _ (g : Given) (r : Record) (p : ℕ) where
+-- r is the record at the tick, last the entry before it.
+module _ (g : Given) (r : Record) (last : ℕ) where
   -- Job j makes the tick a scheduling instant: it arrives at t, finishes at t, or has arrival + Z = t, in any standing; or, in SE,
   -- it ran in t − 1 and reached done = C.
   unfoldable pub turns : ℕ → Bool
   turns j =
       eqb (arrival (g .jobs) j) (r .tick) || finishedAt (r .tick) (standingAt r j) || eqb (zeroSlackInstant g j) (r .tick)
-      || (isSE (g .mode) && eqb p j && eqb (doneAt r j) (jobNominal g j))
+      || (isSE (g .mode) && eqb last j && eqb (doneAt r j) (jobNominal g j))
 
   unfoldable pub schedulingInstant : Bool
   schedulingInstant = someJob g turns
@@ -36,14 +36,14 @@ dispatched g r e = (ltb e (jobCount (g .jobs)) && candidate g r e) || (eqb e idl
 
 -- Legal: dispatched, and, where t > 0 is no scheduling instant, equal to the entry before.
 unfoldable pub legalEntry : Given → Record → ℕ → ℕ → Bool
-legalEntry g r p e = dispatched g r e && (eqb (r .tick) 0 || schedulingInstant g r p || eqb e p)
+legalEntry g r last e = dispatched g r e && (eqb (r .tick) 0 || schedulingInstant g r last || eqb e last)
 
 module _ (g : Given) where
-  -- A claim from the record r on, the entry before it being p: legal, or not legal at the least tick whose entry is not, earlier
+  -- A claim from the record r on, the entry before it being last: legal, or not legal at the least tick whose entry is not, earlier
   -- entries taken as given.
   unfoldable pub claimFrom : Record → ℕ → List ℕ → Claim
-  claimFrom r p [] = Legal
-  claimFrom r p (e ∷ es) = elim (legalEntry g r p e) [ true ↦ claimFrom (advanced g r e) e es | false ↦ NotLegal (r .tick) ]
+  claimFrom r last [] = Legal
+  claimFrom r last (e ∷ es) = elim (legalEntry g r last e) [ true ↦ claimFrom (advanced g r e) e es | false ↦ NotLegal (r .tick) ]
 
   -- The answer to a whole schedule, from the fresh record; idle stands for the entry before tick 0, which no rule looks at.
   unfoldable pub claim : List ℕ → Claim

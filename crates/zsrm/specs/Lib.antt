@@ -1,15 +1,12 @@
 pub mod Tables
-pub mod Fields
 pub mod Refusals
 pub mod Record
 pub mod Tick
-pub mod View
-pub mod Next
 pub mod Run
 pub mod Legal
-pub mod Claims
 pub mod Verdict
 pub mod Answers
 pub mod Bytes
 pub mod Topmost
 pub mod Traced
+pub mod Code

@@ -75,10 +75,11 @@ module _ (tasks jobs : List ℕ) where
       || ltb (overload tasks (taskOf jobs j)) (execution jobs j))
       6 j
 
-  -- 7: its arrival lies before that of the job above it in the list
-  unfoldable pub check7 : ℕ → Outcome
-  check7 j = refuse (ltb 0 j && ltb (arrival jobs j) (arrival jobs (j - 1))) 7 j
+-- 7: its arrival lies before that of the job above it in the list
+unfoldable pub check7 : List ℕ → ℕ → Outcome
+check7 jobs j = refuse (ltb 0 j && ltb (arrival jobs j) (arrival jobs (j - 1))) 7 j
 
+module _ (tasks jobs : List ℕ) where
   -- 8: it comes less than T after the preceding job of its task
   unfoldable pub check8 : ℕ → Outcome
   check8 j =
@@ -88,7 +89,7 @@ module _ (tasks jobs : List ℕ) where
 
   -- 5, then the jobs ascending, 6, 7, 8 for each
   unfoldable pub checkJobs : Outcome
-  checkJobs = before (check5 jobs) (ascending (jobCount jobs) (λ j. before (check6 j) (before (check7 j) (check8 j))))
+  checkJobs = before (check5 jobs) (ascending (jobCount jobs) (λ j. before (check6 tasks jobs j) (before (check7 jobs j) (check8 j))))
 
   -- what every entry point that is given tasks and jobs checks first
   unfoldable pub checkLists : Outcome

@@ -4,7 +4,7 @@ ghost use mathlib.Core.Bool.{true, cond};
 ghost use Prim.Native.Nat.{ℕ, _+_, _≤_, _<_};
 ghost use Rattle.zsrm.specs.Tables.{jobCount};
 ghost use Rattle.zsrm.specs.Record.{doneAt};
-ghost use Rattle.zsrm.specs.Next.{workedOn, nextStanding, nextPlace, nextRecord};
+ghost use Rattle.zsrm.specs.Code.Next.{workedOn, nextStanding, nextPlace, nextRecord};
 use crate::record::Place;
 use crate::record::Record;
 use crate::record::Standing;

@@ -2,7 +2,7 @@
 ghost use mathlib.Core.Path.{_≡_};
 ghost use Rattle.zsrm.specs.Tables.{arrival, execution};
 ghost use Rattle.zsrm.specs.Record.{arrived, blank, freshPlace, fresh, isSE, soundPlace, consistent};
-ghost use Rattle.zsrm.specs.Next.{openingOf};
+ghost use Rattle.zsrm.specs.Code.Next.{openingOf};
 ghost use Rattle.zsrm.specs.Answers.{given};
 use crate::tables::Mode;
 use crate::tables::job_at;

@@ -120,9 +120,9 @@ fn check6(tasks: &[u32], jobs: &[u32], j: u32) -> Outcome
     )
 }
 
-// 7: its arrival lies before that of the job above it in the list. The table has no part in it.
+// 7: its arrival lies before that of the job above it in the list.
 fn check7(jobs: &[u32], j: u32) -> Outcome
-    ensures { λ r. ⌜ ((tasks : List ℕ) → r ≡ check7 tasks (now (jobs .entry)) j) ⌝ }
+    ensures { λ r. ⌜ r ≡ check7 (now (jobs .entry)) j ⌝ }
 {
     if 0 < j {
         let job = job_at(jobs, j);
@@ -148,7 +148,7 @@ fn check8(tasks: &[u32], jobs: &[u32], j: u32) -> Outcome
 // 6, 7, 8 in this order, for job j.
 fn check_job(tasks: &[u32], jobs: &[u32], j: u32) -> Outcome
     ensures { λ r. let ts = now (tasks .entry) in let js = now (jobs .entry) in
-        ⌜ r ≡ before (check6 ts js j) (before (check7 ts js j) (check8 ts js j)) ⌝ }
+        ⌜ r ≡ before (check6 ts js j) (before (check7 js j) (check8 ts js j)) ⌝ }
 {
     let six = check6(tasks, jobs, j);
     let seven = check7(jobs, j);

@@ -4,7 +4,7 @@ ghost use mathlib.Core.Path.{_≡_};
 ghost use lib.ListN.{getD};
 ghost use lib.Dec.{ltb, eqb};
 ghost use Rattle.zsrm.specs.Tables.{jobCount, taskOf, jobCriticality, jobPriority, jobNominal, zeroSlackInstant, deadlineInstant};
-ghost use Rattle.zsrm.specs.Fields.{lists, taskAt, jobAt};
+ghost use Rattle.zsrm.specs.Code.Fields.{lists, taskAt, jobAt};
 
 // ZSRM-S suspends; ZSRM-SE suspends and ends.
 pub enum Mode {

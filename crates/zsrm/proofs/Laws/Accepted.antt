@@ -96,9 +96,9 @@ module _ (tasks jobs : List ℕ) (ok : checkJobs tasks jobs ≡ Done) where
   pub job : (j : ℕ) → j < jobCount jobs → AcceptedJob j
   unfolding checkJobs check6 check8
   job j l =
-      let each = ascending-at (λ i. before (check6 tasks jobs i) (before (check7 tasks jobs i) (check8 tasks jobs i))) (jobCount jobs) j l (before-second (check5 jobs) _ ok) in
+      let each = ascending-at (λ i. before (check6 tasks jobs i) (before (check7 jobs i) (check8 tasks jobs i))) (jobCount jobs) j l (before-second (check5 jobs) _ ok) in
       let six = refuse-fine _ _ _ (before-first (check6 tasks jobs j) _ each) in
-      let eight = refuse-fine _ _ _ (before-second (check7 tasks jobs j) _ (before-second (check6 tasks jobs j) _ each)) in
+      let eight = refuse-fine _ _ _ (before-second (check7 jobs j) _ (before-second (check6 tasks jobs j) _ each)) in
       record { known = ltb-true (taskOf jobs j) (taskCount tasks) (search fine); early = search fine; within = search fine; apart = eight }
 
   -- any two jobs of one task, and not only successive ones, lie at least T apart

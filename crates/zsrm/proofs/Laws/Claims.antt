@@ -21,15 +21,15 @@ use Rattle.zsrm.specs.declared.record.Record.{Record}
 use Rattle.zsrm.specs.declared.tables.Mode.{Mode}
 use Rattle.zsrm.specs.declared.tick.View.{View}
 use Rattle.zsrm.specs.Answers.{given}
-use Rattle.zsrm.specs.Claims.{ReplayedAs, mayRun, tried, turnsAt}
-use Rattle.zsrm.specs.Fields.{lists}
+use Rattle.zsrm.specs.Code.Claims.{ReplayedAs, mayRun, tried, turnsAt}
+use Rattle.zsrm.specs.Code.Fields.{lists}
 use Rattle.zsrm.specs.Legal.{claim, claimFrom, dispatched, legalEntry, schedulingInstant, turns}
 use Rattle.zsrm.specs.Record.{consistent, doneAt, fresh, isSE, placeAt, standingAt}
 use Rattle.zsrm.specs.Refusals.{checkLists}
 use Rattle.zsrm.specs.Run.{replay, replayed}
 use Rattle.zsrm.specs.Tables.{Given, idle, jobCount, jobNominal, jobPriority, zeroSlackInstant}
 use Rattle.zsrm.specs.Tick.{advanced, candidate, eligible, readyAt, readyWord, someJob}
-use Rattle.zsrm.specs.View.{hasPriority, view}
+use Rattle.zsrm.specs.Code.View.{hasPriority, view}
 use Rattle.zsrm.proofs.Laws.Consistent.{advanced-consistent, fresh-consistent}
 use Rattle.zsrm.proofs.Laws.Places.{tick-advanced, tick-fresh}
 use Rattle.zsrm.proofs.Laws.Ranges.{bounded}

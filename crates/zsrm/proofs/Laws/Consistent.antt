@@ -184,10 +184,10 @@ module _ (g : Given) (r : Record) (e : ℕ) where
         record { se = h .se; here = arrived-later (g .jobs) (r .tick) j (h .here); short = omega arith; room = omega arith; after = h .after; by = omega arith }
 
     keeps-place : (j : ℕ) → j < 64 → (s : Standing) → standingAt r j ≡ s → Keeps j s
-    keeps-place j l NotArrived q = keeps-waiting j (done-idle j (not-run j l (dead j NotArrived q (unfold unfinished in refl))))
+    keeps-place j l NotArrived q = keeps-waiting j (done-idle j (not-run j l (dead j NotArrived q (refl))))
     keeps-place j l Unfinished q = keeps-running j
-    keeps-place j l (Finished f) q = keeps-complete j f (done-idle j (not-run j l (dead j (Finished f) q (unfold unfinished in refl))))
-    keeps-place j l (Ended t) q = keeps-stopped j t (done-idle j (not-run j l (dead j (Ended t) q (unfold unfinished in refl))))
+    keeps-place j l (Finished f) q = keeps-complete j f (done-idle j (not-run j l (dead j (Finished f) q (refl))))
+    keeps-place j l (Ended t) q = keeps-stopped j t (done-idle j (not-run j l (dead j (Ended t) q (refl))))
 
 -- the places of a consistent record are sound, and a record whose places are sound is consistent
 pub sound-at : (g : Given) (r : Record) → consistent g r ≡ true → (j : ℕ) → j < 64
@@ -238,7 +238,7 @@ consistent-tick g r h = leb-true (r .tick) 16384 (and-left (leb (r .tick) 16384)
 -- a job that has arrived and is neither finished nor ended is alive
 pub pending-alive : (g : Given) (r : Record) → consistent g r ≡ true → (j : ℕ) → j < jobCount (g .jobs) → jobCount (g .jobs) ≤ 64 → arrival (g .jobs) j ≤ r .tick
     → ((f : ℕ) → standingAt r j ≡ Finished f → ⊥) → ((e : ℕ) → standingAt r j ≡ Ended e → ⊥) → alive r j ≡ true
-unfolding alive unfinished
+unfolding alive
 pending-alive g r ok j l few a nf ne = go (standingAt r j) refl (sound-at g r ok j (omega arith))
   where
     go : (s : Standing) → standingAt r j ≡ s → Sound (g .mode) (g .jobs) (r .tick) j (doneAt r j) s → unfinished s ≡ true

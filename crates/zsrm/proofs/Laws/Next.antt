@@ -18,9 +18,9 @@ use Rattle.zsrm.specs.declared.record.Record.{Record}
 use Rattle.zsrm.specs.declared.record.Standing.{Standing}
 use Rattle.zsrm.specs.declared.record.Standing.the-variants.{Ended, Finished, NotArrived, Unfinished}
 use Rattle.zsrm.specs.declared.tables.Job.{Job}
-use Rattle.zsrm.specs.Fields.{jobAt}
+use Rattle.zsrm.specs.Code.Fields.{jobAt}
 use Rattle.zsrm.specs.Legal.{dispatched}
-use Rattle.zsrm.specs.Next.{nextAt, nextPlace, nextRecord, nextStanding}
+use Rattle.zsrm.specs.Code.Next.{nextAt, nextPlace, nextRecord, nextStanding}
 use Rattle.zsrm.specs.Record.{arrived, arriving, blank, consistent, doneAt, empty, fresh, freshPlace, opening, placeAt, standingAt}
 use Rattle.zsrm.specs.Tables.{Given, arrival, execution, jobCount}
 use Rattle.zsrm.specs.Tick.{advanced, alive, doneAfter, endedWord, ends, finishes, goesOn, placeAfter, standingAfter, unfinished}

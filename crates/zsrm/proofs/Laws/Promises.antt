@@ -16,7 +16,7 @@ use Rattle.zsrm.specs.declared.answers.Stepped.{Stepped}
 use Rattle.zsrm.specs.declared.record.Record.{Record}
 use Rattle.zsrm.specs.declared.record.Standing.the-variants.{Finished}
 use Rattle.zsrm.specs.Answers.{checkGiven, checkSchedule, checkStep, checkVerdict, checkWitness, claimAnswer, claimSaid, freshAnswer, outcomeSaid, ran, responseAnswer, runAnswer, runSchedule, stepAnswer, stepped, unless, verdictAnswer, verdictSaid, witnessAnswer, witnessSaid}
-use Rattle.zsrm.specs.Claims.{FitsIn}
+use Rattle.zsrm.specs.Code.Claims.{FitsIn}
 use Rattle.zsrm.specs.Legal.{claim}
 use Rattle.zsrm.specs.Record.{consistent, fresh, standingAt}
 use Rattle.zsrm.specs.Refusals.{ascending, before, check11, check12, check13, check2, check3, check4, checkLists, checkTasks, outside, refuse}
@@ -152,7 +152,7 @@ module _ (g : Given) (horizon : ℕ) (schedule : List ℕ) (legal : claimSaid (c
 
     -- a job that is judged met is not missed
     pub met-not-missed : verdictSaid (verdictAnswer g (replayed g schedule) j) ≡ 0 ∷ [] → witnessSaid (witnessAnswer g horizon schedule j) ≡ 1 ∷ []
-    unfolding verdictSaid witnessSaid missed
+    unfolding verdictSaid witnessSaid
     met-not-missed h =
         let met : verdict g (replayed g schedule) j ≡ verdicts.Met = sym verdict-taken ∙ verdict-said (verdictAnswer g (replayed g schedule) j) verdicts.Met h in
         ap witnessSaid (witness-taken ∙ witness-reads g schedule j witnesses.NotMissed .1 (is-legal g horizon schedule legal .legal, ap missed met))

@@ -59,7 +59,7 @@ small-jobs tasks jobs =
     small-before (check5 jobs) _ (small-refuse _ 5 0 (omega arith) (omega arith))
     (λ ok. small-ascending _ (jobCount jobs) (λ j l. let few = ltb-false 64 (jobCount jobs) (or-right-false (not (eqb (length jobs % 3) 0)) _ (refuse-fine _ _ _ ok)) in
     small-before (check6 tasks jobs j) _ (small-refuse _ 6 j (omega arith) (omega arith))
-    (λ _. small-before (check7 tasks jobs j) _ (small-refuse _ 7 j (omega arith) (omega arith)) (λ _. small-refuse _ 8 j (omega arith) (omega arith)))))
+    (λ _. small-before (check7 jobs j) _ (small-refuse _ 7 j (omega arith) (omega arith)) (λ _. small-refuse _ 8 j (omega arith) (omega arith)))))
 
 pub small-bytes : (mode : ℕ) (tasks jobs : List ℕ) (horizon : ℕ) (schedule : List ℕ) → Small (checkBytes mode tasks jobs horizon schedule)
 unfolding checkBytes check1 uneven check9 check10

@@ -42,7 +42,7 @@ module _ (g : Given) (r : Record) (e p : ℕ) (few : jobCount (g .jobs) ≤ 64) 
 
   -- a job is alive after the tick if it was and is not ended in it, and only if it was
   still-alive : (j : ℕ) → j < jobCount (g .jobs) → alive r j ≡ true → ends g r e j ≡ false → alive (advanced g r e) j ≡ true
-  unfolding alive unfinished standingAfter goesOn finishedAt
+  unfolding alive standingAfter goesOn
   still-alive j l a n = ap unfinished (standing-advanced g r e j (omega arith)) ∙ go (standingAt r j) a (quiet j l .no-finish)
     where
       Goes : Standing → Type 0
@@ -59,7 +59,7 @@ module _ (g : Given) (r : Record) (e p : ℕ) (few : jobCount (g .jobs) ≤ 64) 
       go (Ended x) u = clash u refl
 
   was-alive : (j : ℕ) → j < jobCount (g .jobs) → alive (advanced g r e) j ≡ true → alive r j ≡ true
-  unfolding alive unfinished standingAfter opening
+  unfolding alive standingAfter opening
   was-alive j l a =
       go (standingAt r j) (sound-at g r sound j (omega arith)) (ap unfinished (sym (standing-advanced g r e j (omega arith))) ∙ a)
     where

@@ -13,12 +13,12 @@ use Rattle.zsrm.specs.declared.record.Record.{Record}
 use Rattle.zsrm.specs.declared.tables.Mode.{Mode}
 use Rattle.zsrm.specs.declared.tick.View.{View}
 use Rattle.zsrm.specs.Answers.{given, stepped}
-use Rattle.zsrm.specs.Fields.{lists}
+use Rattle.zsrm.specs.Code.Fields.{lists}
 use Rattle.zsrm.specs.Legal.{dispatched}
 use Rattle.zsrm.specs.Refusals.{checkJobs, checkLists, checkTasks}
 use Rattle.zsrm.specs.Tables.{jobCount}
 use Rattle.zsrm.specs.Tick.{advanced, choice, endedWord, readyAt, readyCount, readyWord}
-use Rattle.zsrm.specs.View.{chosen, view}
+use Rattle.zsrm.specs.Code.View.{chosen, view}
 use Rattle.zsrm.proofs.Laws.Accepted.{few-jobs}
 use Rattle.zsrm.proofs.Laws.Ranges.{bounded}
 use Rattle.zsrm.proofs.Laws.Refusals.{before-first, before-second}

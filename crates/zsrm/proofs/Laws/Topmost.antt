@@ -32,7 +32,7 @@ use Rattle.zsrm.proofs.Laws.Replay.{kept-at, legal-dispatch, tick-repla
 use Rattle.zsrm.proofs.Laws.Tick.{dispatch-serves, past-of}
 
 pub alive-unfinished : (r : Record) (j : ℕ) → alive r j ≡ true → standingAt r j ≡ Unfinished
-unfolding alive unfinished
+unfolding alive
 alive-unfinished r j a = go (standingAt r j) a
   where
     go : (s : Standing) → unfinished s ≡ true → s ≡ Unfinished
@@ -175,7 +175,7 @@ module _ (g : Given) (k : ℕ) (okTasks : checkTasks (g .tasks) ≡ Done) (okJob
       opens h = opening-on-time g (suc (r .tick)) j (doneAfter g r e j) (away (g .jobs) (r .tick) j (o .job) (h .away))
 
       goes-on : standingAt r j ≡ Unfinished → r .tick ≤ zeroSlackInstant g j + doneAt r j → After (goesOn g r e j)
-      unfolding After goesOn finishes assured alive unfinished
+      unfolding After goesOn finishes assured alive
       goes-on s t =
           by-cond After (finishes g r e j) (Finished (suc (r .tick))) (cond (ends g r e j) (Ended (r .tick)) Unfinished)
           (λ x.

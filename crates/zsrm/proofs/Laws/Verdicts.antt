@@ -17,8 +17,8 @@ use Rattle.zsrm.specs.declared.record.Standing.{Standing}
 use Rattle.zsrm.specs.declared.record.Standing.the-variants.{Ended, Finished, NotArrived, Unfinished}
 use Rattle.zsrm.specs.declared.tables.Mode.{Mode}
 use Rattle.zsrm.specs.Answers.{checkGiven, checkSchedule, checkVerdict, checkWitness, given}
-use Rattle.zsrm.specs.Claims.{FitsIn, ReplayedAs}
-use Rattle.zsrm.specs.Fields.{lists}
+use Rattle.zsrm.specs.Code.Claims.{FitsIn, ReplayedAs}
+use Rattle.zsrm.specs.Code.Fields.{lists}
 use Rattle.zsrm.specs.Legal.{claim}
 use Rattle.zsrm.specs.Record.{consistent, doneAt, fresh, standingAt}
 use Rattle.zsrm.specs.Refusals.{check11, check13, checkLists}

@@ -16,11 +16,11 @@ use Rattle.zsrm.specs.declared.record.Record.{Record}
 use Rattle.zsrm.specs.declared.tables.Mode.{Mode}
 use Rattle.zsrm.specs.declared.tick.View.{View}
 use Rattle.zsrm.specs.Answers.{given}
-use Rattle.zsrm.specs.Fields.{lists}
+use Rattle.zsrm.specs.Code.Fields.{lists}
 use Rattle.zsrm.specs.Record.{doneAt, isSE}
 use Rattle.zsrm.specs.Tables.{Given, idle, jobCount, jobCriticality, jobNominal, jobPriority, zeroSlackInstant}
 use Rattle.zsrm.specs.Tick.{alive, candidate, choice, doneAfter, eligible, endedWord, ends, jobWord, moreCritical, over, pastZeroSlack, readyAt, readyWord, someJob, suspended}
-use Rattle.zsrm.specs.View.{belowWord, chosen, endedBy, hasPriority, isPast, liesBelow, lowestOf, outranked, outranks, overrunWord, overruns, pastWord, priorityWord, view}
+use Rattle.zsrm.specs.Code.View.{belowWord, chosen, endedBy, hasPriority, isPast, liesBelow, lowestOf, outranked, outranks, overrunWord, overruns, pastWord, priorityWord, view}
 use Rattle.zsrm.proofs.Laws.Consistent.{ends-se}
 use Rattle.zsrm.proofs.Laws.Ready.{candidate-top}
 

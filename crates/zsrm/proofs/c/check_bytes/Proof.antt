@@ -4,8 +4,8 @@ use mathlib.Core.Path.{_≡_, refl, sym, ap, ap₂, _∙_}
 use borrow.Author.Needs.{needs}
 use Rattle.zsrm.specs.declared.answers.Outcome.{Outcome}
 use Rattle.zsrm.specs.declared.answers.Outcome.the-variants.{Done, Refused}
-use Rattle.zsrm.specs.Refusals.{before, check1, check9, check10, checkTasks, checkJobs}
-use Rattle.zsrm.specs.Bytes.{numbers4, numbers2, uneven, checkBytes}
+use Rattle.zsrm.specs.Refusals.{before, check1, checkTasks}
+use Rattle.zsrm.specs.Bytes.{numbers4, uneven, checkBytes}
 use Rattle.zsrm.proofs.Laws.Refusals.{before-second}
 use Rattle.zsrm.proofs.Laws.Bytes.{tasks-small, before-assoc}
 use Rattle.zsrm.proofs.c.check_bytes.Statement.{statement}

@@ -1,7 +1,6 @@
 -- The checks in their order, as the calls answer them.
-use mathlib.Core.Path.{ap, ap₂, _∙_}
+use mathlib.Core.Path.{ap₂, _∙_}
 use borrow.Author.Needs.{needs}
-use Rattle.zsrm.specs.declared.answers.Outcome.{Outcome}
 use Rattle.zsrm.specs.Refusals.{before}
 use Rattle.zsrm.proofs.Laws.Bytes.{schedule-bytes}
 use Rattle.zsrm.proofs.c.check_schedule_bytes.Statement.{statement}

@@ -1,6 +1,6 @@
 -- What is left to claim from tick t on is what the whole schedule claims.
-use Prim.Native.Nat.{ℕ, _-_, _/_, _≤_}
-use mathlib.Core.Path.{_≡_, refl, sym, ap, _∙_}
+use Prim.Native.Nat.{_-_, _≤_}
+use mathlib.Core.Path.{_≡_, sym, ap, _∙_}
 use native.Mathlib.Omega.{arith}
 use lib.ListN.{length}
 use borrow.Author.Needs.{needs}
@@ -32,16 +32,17 @@ try-entry-requires c κs =
 loop-again : tie.Need-loop-again Inv-loop μ-loop
 loop-again c =
     let start = c .before .before .before .before .before .before .before .before .before .before in
+    let g = given (start .args .mode) (start .args .tasks .now) (start .args .jobs .now) in
     let at = c .before .before .before .before .before in
     let l = start .args .schedule .now in
-    let s = tried-says (given (start .args .mode) (start .args .tasks .now) (start .args .jobs .now)) (at .loop .rec) (at .loop .last) _ _ (c .before .before .try-entry .ensures) in
+    let s = tried-says g (at .loop .rec) (at .loop .last) _ _ (c .before .before .try-entry .ensures) in
     let legal = sym (s .0) ∙ c .if1 .taken in
     let limit = start .pre .1 in
     let n = length-numbers2 l in
     let more = c .before .before .before .before .loop-test .taken in (
       omega arith,
       at .loop .inv .1,
-      replaying-more (given (start .args .mode) (start .args .tasks .now) (start .args .jobs .now)) (numbers2 l) (at .loop .rec) _ (at .loop .last) (at .loop .t) _ (at .loop .inv .2) (omega (arith, at .loop .inv .1)) (omega arith)
+      replaying-more g (numbers2 l) (at .loop .rec) _ (at .loop .last) (at .loop .t) _ (at .loop .inv .2) (omega (arith, at .loop .inv .1)) (omega arith)
           (c .before .before .before .number2 .ensures ∙ sym (entry-at l (at .loop .t) (omega (arith, at .loop .inv .1)))) legal (s .1 legal),
     )
 
@@ -49,12 +50,13 @@ returns : tie.Need-returns Inv-loop μ-loop
 unfolding packedClaim
 returns c =
     let start = c .before .before .before .before .before .before .before .before .before .before in
+    let g = given (start .args .mode) (start .args .tasks .now) (start .args .jobs .now) in
     let at = c .before .before .before .before .before in
     let l = start .args .schedule .now in
-    let s = tried-says (given (start .args .mode) (start .args .tasks .now) (start .args .jobs .now)) (at .loop .rec) (at .loop .last) _ _ (c .before .before .try-entry .ensures) in
+    let s = tried-says g (at .loop .rec) (at .loop .last) _ _ (c .before .before .try-entry .ensures) in
     let n = length-numbers2 l in
     let more = c .before .before .before .before .loop-test .taken in
-    sym (ap packedClaim (replaying-stops (given (start .args .mode) (start .args .tasks .now) (start .args .jobs .now)) (numbers2 l) (at .loop .rec) (at .loop .last) (at .loop .t) _ (at .loop .inv .2) (omega (arith, at .loop .inv .1))
+    sym (ap packedClaim (replaying-stops g (numbers2 l) (at .loop .rec) (at .loop .last) (at .loop .t) _ (at .loop .inv .2) (omega (arith, at .loop .inv .1))
     (c .before .before .before .number2 .ensures ∙ sym (entry-at l (at .loop .t) (omega (arith, at .loop .inv .1)))) (sym (s .0) ∙ c .if1 .left)))
 
 returns-2 : tie.Need-returns-2 Inv-loop μ-loop

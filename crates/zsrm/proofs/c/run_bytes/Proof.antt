@@ -1,5 +1,5 @@
 -- The list holds the entries of the first t ticks as bytes, and the record is the one that they lead to.
-use Prim.Native.Nat.{ℕ, _-_, _+_, _*_, _/_, _%_, _≤_}
+use Prim.Native.Nat.{ℕ, _-_, _+_, _*_, _/_, _≤_}
 use mathlib.Core.Path.{_≡_, refl, sym, ap, _∙_}
 use native.Mathlib.Omega.{arith}
 use lib.ListN.{length, take, set, length-set}
@@ -28,13 +28,14 @@ loop-holds : tie.Need-loop-holds Inv-loop μ-loop
 unfolding bytes2
 loop-holds c =
     let start = c .before .before .before .before in
+    let g = given (start .args .mode) (start .args .tasks .now) (start .args .jobs .now) in
     let from = c .fresh-record .ensures in (
       omega arith,
       refl,
       refl,
       ap (λ (r : Record). r .tick) from ∙ tick-fresh (start .args .jobs .now),
-      going-none (given (start .args .mode) (start .args .tasks .now) (start .args .jobs .now)) _ (rw from (fresh-consistent (given (start .args .mode) (start .args .tasks .now) (start .args .jobs .now)))),
-      sym (ap bytes2 (entries-none (given (start .args .mode) (start .args .tasks .now) (start .args .jobs .now)) _)),
+      going-none g _ (rw from (fresh-consistent g)),
+      sym (ap bytes2 (entries-none g _)),
     )
 
 advance-requires : tie.Need-advance-requires Inv-loop μ-loop
@@ -52,8 +53,9 @@ loop-again : tie.Need-loop-again Inv-loop μ-loop
 loop-again c =
     let at = c .before .before .before .before .before .before .before in
     let start = c .before .before .before .before .before .before .before .before .before .before .before .before in
+    let g = given (start .args .mode) (start .args .tasks .now) (start .args .jobs .now) in
     let put = c .before .before .before .put2 in
-    let s = steps-entry (given (start .args .mode) (start .args .tasks .now) (start .args .jobs .now)) (at .loop .rec) _ (c .before .before .before .before .before .advance .ensures) in
+    let s = steps-entry g (at .loop .rec) _ (c .before .before .before .before .before .advance .ensures) in
     let fits = start .pre .1 .0 in
     let more = c .before .before .before .before .before .before .loop-test .taken in
     let l = at .loop .schedule in
@@ -62,8 +64,8 @@ loop-again c =
       at .loop .inv .1,
       ap length (put .ensures) ∙ length-set (set l (t * 2) _) (t * 2 + 1) _ ∙ length-set l (t * 2) _ ∙ at .loop .inv .2,
       at .loop .inv .3,
-      going-more (given (start .args .mode) (start .args .tasks .now) (start .args .jobs .now)) _ (at .loop .rec) _ t (at .loop .inv .4) (omega (arith, at .loop .inv .1, at .loop .inv .3)) (s .1),
-      ap (take ((t + 1) * 2)) (put .ensures) ∙ going-bytes (given (start .args .mode) (start .args .tasks .now) (start .args .jobs .now)) _ (at .loop .rec) l t _ (at .loop .inv .4) (at .loop .inv .5) (omega (arith, at .loop .inv .1, at .loop .inv .2)) (s .0),
+      going-more g _ (at .loop .rec) _ t (at .loop .inv .4) (omega (arith, at .loop .inv .1, at .loop .inv .3)) (s .1),
+      ap (take ((t + 1) * 2)) (put .ensures) ∙ going-bytes g _ (at .loop .rec) l t _ (at .loop .inv .4) (at .loop .inv .5) (omega (arith, at .loop .inv .1, at .loop .inv .2)) (s .0),
     )
 
 returns : tie.Need-returns Inv-loop μ-loop
@@ -71,11 +73,12 @@ unfolding runEntries
 returns c =
     let at = c .before in
     let start = c .before .before .before .before .before .before in
+    let g = given (start .args .mode) (start .args .tasks .now) (start .args .jobs .now) in
     let even = start .pre .1 .1 in
     let last : at .loop .t ≡ length (start .args .schedule .now) / 2 = omega (arith, at .loop .inv .1) in
     sym (take-all (at .loop .t * 2) (at .loop .schedule) (omega (arith, at .loop .inv .1, at .loop .inv .2))) ∙ at .loop .inv .5
-    ∙ ap (λ (n : ℕ). bytes2 (entries (given (start .args .mode) (start .args .tasks .now) (start .args .jobs .now)) (c .before .before .fresh-record .result) n)) last
-    ∙ ap (λ (r : Record). bytes2 (entries (given (start .args .mode) (start .args .tasks .now) (start .args .jobs .now)) r (length (start .args .schedule .now) / 2))) (c .before .before .fresh-record .ensures)
+    ∙ ap (λ (n : ℕ). bytes2 (entries g (c .before .before .fresh-record .result) n)) last
+    ∙ ap (λ (r : Record). bytes2 (entries g r (length (start .args .schedule .now) / 2))) (c .before .before .fresh-record .ensures)
 
 pub run-bytes-spec : {M : Type 1} → statement M
 run-bytes-spec =

@@ -1,45 +1,62 @@
 -- What the checks answer decides: the run on the decoded lists, or the packed refusal and the bytes as they were.
-use mathlib.Core.Path.{refl, sym, ap, ap₂, _∙_}
+use mathlib.Core.Path.{refl, sym, ap, ap₂, _∙_, _≡_}
 use native.Mathlib.Omega.{arith}
 use lib.ListN.{length}
 use borrow.Author.Needs.{needs}
+use Rattle.zsrm.specs.declared.answers.Outcome.the-variants.{Done, Refused}
+use Rattle.zsrm.specs.Bytes.{checkBytes}
 use Rattle.zsrm.specs.Refusals.{checkLists}
 use Rattle.zsrm.proofs.Laws.Bytes.{length-numbers4}
 use Rattle.zsrm.proofs.Laws.Small.{called, c-done, c-runs, c-fits, c-refused, c-keeps}
 use Rattle.zsrm.proofs.c.zsrm_run.Statement.{statement}
 use Rattle.zsrm.proofs.c.zsrm_run.Tie as tie
 
+-- the checks passed, or found a refusal
+passed : (c : tie.After-enum-told) → checkBytes (c .before .before .before .before .before .before .args .mode) (c .before .before .before .before .before .before .args .tasks .now) (c .before .before .before .before .before .before .args .jobs .now) (c .before .before .before .before .before .before .args .horizon) (c .before .before .before .before .before .before .args .schedule .now) ≡ Done
+passed c = sym (c .before .before .check-bytes .ensures _ refl) ∙ c .enum-told .given .1
+
+refused : (c : tie.After-checked) → checkBytes (c .before .before .before .before .before .before .args .mode) (c .before .before .before .before .before .before .args .tasks .now) (c .before .before .before .before .before .before .args .jobs .now) (c .before .before .before .before .before .before .args .horizon) (c .before .before .before .before .before .before .args .schedule .now) ≡ Refused (c .checked .given .0 .0) (c .checked .given .0 .1 .0)
+refused c = sym (c .before .before .check-bytes .ensures _ refl) ∙ c .checked .given .1
+
 decode-requires : tie.Need-decode-requires
-decode-requires c κs = let start = c .before .before .before .before .before .before in let w = called (start .args .mode) (start .args .tasks .now) (start .args .jobs .now) (start .args .horizon) (start .args .schedule .now) (sym (c .before .before .check-bytes .ensures (start .args .schedule .now) refl) ∙ c .enum-told .given .1) in omega arith
+decode-requires c κs = let w = called _ _ _ _ _ (passed c) in omega arith
 
 decode-requires-2 : tie.Need-decode-requires-2
-decode-requires-2 c κs = let start = c .before .before .before .before .before .before .before in let w = called (start .args .mode) (start .args .tasks .now) (start .args .jobs .now) (start .args .horizon) (start .args .schedule .now) (sym (c .before .before .before .check-bytes .ensures (start .args .schedule .now) refl) ∙ c .before .enum-told .given .1) in omega arith
+decode-requires-2 c κs = let w = called _ _ _ _ _ (passed (c .before)) in omega arith
 
 array-share-prefix-table : tie.Need-array-share-prefix-table
-array-share-prefix-table c = let start = c .before .before .before .before .before .before .before .before .before in let w = called (start .args .mode) (start .args .tasks .now) (start .args .jobs .now) (start .args .horizon) (start .args .schedule .now) (sym (c .before .before .before .before .before .check-bytes .ensures (start .args .schedule .now) refl) ∙ c .before .before .before .enum-told .given .1) in omega (arith, c .before .before .decode .ensures .1)
+array-share-prefix-table c = let w = called _ _ _ _ _ (passed (c .before .before .before)) in omega (arith, c .before .before .decode .ensures .1)
 
 array-share-prefix-list : tie.Need-array-share-prefix-list
-array-share-prefix-list c = let start = c .before .before .before .before .before .before .before .before .before .before in let w = called (start .args .mode) (start .args .tasks .now) (start .args .jobs .now) (start .args .horizon) (start .args .schedule .now) (sym (c .before .before .before .before .before .before .check-bytes .ensures (start .args .schedule .now) refl) ∙ c .before .before .before .before .enum-told .given .1) in omega (arith, c .before .before .decode2 .ensures .1)
+array-share-prefix-list c = let w = called _ _ _ _ _ (passed (c .before .before .before .before)) in omega (arith, c .before .before .decode2 .ensures .1)
 
 run-bytes-requires : tie.Need-run-bytes-requires
 run-bytes-requires c κs =
-    let start = c .before .before .before .before .before .before .before .before .before .before .before .before in
-    let w = called (start .args .mode) (start .args .tasks .now) (start .args .jobs .now) (start .args .horizon) (start .args .schedule .now) (sym (c .before .before .before .before .before .before .before .before .check-bytes .ensures (start .args .schedule .now) refl) ∙ c .before .before .before .before .before .before .enum-told .given .1) in
+    let w = called _ _ _ _ _ (passed (c .before .before .before .before .before .before)) in
     (ap₂ checkLists (c .before .before .before .before .before .decode .ensures .0) (c .before .before .before .before .decode2 .ensures .0) ∙ w .lists, (omega (arith, w .even, w .whole, w .bounded), w .even))
 
 returns : tie.Need-returns
 returns c =
-    let start = c .before .before .before .before .before .before .before .before .before .before .before .before .before .before .before in
-    let ok = (sym (c .before .before .before .before .before .before .before .before .before .before .before .check-bytes .ensures (start .args .schedule .now) refl) ∙ c .before .before .before .before .before .before .before .before .before .enum-told .given .1) in
-    (c-done (start .args .mode) (start .args .tasks .now) (start .args .jobs .now) (start .args .horizon) (start .args .schedule .now) ok, c-runs (start .args .mode) (start .args .tasks .now) (start .args .jobs .now) (start .args .horizon) (start .args .schedule .now) ok _ _ _ _ (c .before .before .before .before .before .before .mode-of .ensures) (c .before .before .before .before .before .before .before .before .decode .ensures .0) (c .before .before .before .before .before .before .before .decode2 .ensures .0) (c .before .before .run-bytes .ensures))
-
-returns-2 : tie.Need-returns-2
-returns-2 c = let start = c .before .before .before .before .before .before .before in (c-refused (start .args .mode) (start .args .tasks .now) (start .args .jobs .now) (start .args .horizon) (start .args .schedule .now) _ _ (sym (c .before .before .before .check-bytes .ensures (start .args .schedule .now) refl) ∙ c .before .checked .given .1), c-keeps (start .args .mode) (start .args .tasks .now) (start .args .jobs .now) (start .args .horizon) (start .args .schedule .now) _ _ (sym (c .before .before .before .check-bytes .ensures (start .args .schedule .now) refl) ∙ c .before .checked .given .1))
+    let ok = passed (c .before .before .before .before .before .before .before .before .before) in
+    (c-done _ _ _ _ _ ok, c-runs _ _ _ _ _ ok _ _ _ _ (c .before .before .before .before .before .before .mode-of .ensures) (c .before .before .before .before .before .before .before .before .decode .ensures .0) (c .before .before .before .before .before .before .before .decode2 .ensures .0) (c .before .before .run-bytes .ensures))
 
 pub zsrm-run-spec : {M : Type 1} → statement M
 zsrm-run-spec =
     tie.close
-    (tie.spec (λ c κs. search needs) (λ c. search needs) decode-requires decode-requires-2 (λ c κs. search needs) array-share-prefix-table (λ c. sym (ap length (c .before .before .before .decode .ensures .0) ∙ length-numbers4 (c .before .before .before .before .before .before .before .before .before .before .args .tasks .now)))
-    array-share-prefix-list (λ c. sym (ap length (c .before .before .before .decode2 .ensures .0) ∙ length-numbers4 (c .before .before .before .before .before .before .before .before .before .before .before .args .jobs .now))) run-bytes-requires (λ c. search needs)
-    (λ c. let start = c .before .before .before .before .before .before .before in let w = c-fits (start .args .mode) (start .args .tasks .now) (start .args .jobs .now) (start .args .horizon) (start .args .schedule .now) _ _ (sym (c .before .before .before .check-bytes .ensures (start .args .schedule .now) refl) ∙ c .before .checked .given .1) in search needs)
-    (λ c. let start = c .before .before .before .before .before .before .before in let w = c-fits (start .args .mode) (start .args .tasks .now) (start .args .jobs .now) (start .args .horizon) (start .args .schedule .now) _ _ (sym (c .before .before .before .check-bytes .ensures (start .args .schedule .now) refl) ∙ c .before .checked .given .1) in search needs) (λ c. search needs) returns returns-2)
+    (tie.spec
+    (λ c κs. search needs)
+    (λ c. search needs)
+    decode-requires
+    decode-requires-2
+    (λ c κs. search needs)
+    array-share-prefix-table
+    (λ c. sym (ap length (c .before .before .before .decode .ensures .0) ∙ length-numbers4 _))
+    array-share-prefix-list
+    (λ c. sym (ap length (c .before .before .before .decode2 .ensures .0) ∙ length-numbers4 _))
+    run-bytes-requires
+    (λ c. search needs)
+    (λ c. let w = c-fits _ _ _ _ _ _ _ (refused (c .before)) in search needs)
+    (λ c. let w = c-fits _ _ _ _ _ _ _ (refused (c .before)) in search needs)
+    (λ c. search needs)
+    returns
+    (λ c. (c-refused _ _ _ _ _ _ _ (refused (c .before)), c-keeps _ _ _ _ _ _ _ (refused (c .before)))))

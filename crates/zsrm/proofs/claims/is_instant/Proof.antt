@@ -1,12 +1,12 @@
 -- No job below j is a reason.
-use Prim.Native.Nat.{ℕ, _-_, _≤_}
+use Prim.Native.Nat.{_-_, _≤_}
 use mathlib.Core.Path.{_≡_, refl, sym, _∙_}
-use mathlib.Core.Bool.{true, false}
+use mathlib.Core.Bool.{false}
 use native.Mathlib.Omega.{arith}
 use borrow.Author.Needs.{needs}
 use Rattle.bits.specs.Below.{some}
 use Rattle.bits.proofs.Below.{some-true, scan-on, scan-end}
-use Rattle.zsrm.specs.Fields.{lists}
+use Rattle.zsrm.specs.Code.Fields.{lists}
 use Rattle.zsrm.specs.Record.{placeAt}
 use Rattle.zsrm.proofs.Laws.Claims.{turnsIn, instant-by}
 use Rattle.zsrm.proofs.claims.is_instant.Statement.{statement}

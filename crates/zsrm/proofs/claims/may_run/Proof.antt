@@ -4,10 +4,10 @@ use mathlib.Core.Path.{ap, ap₂, _∙_}
 use mathlib.Core.Bool.{Bool, _&&_, _||_}
 use lib.Dec.{ltb, eqb}
 use borrow.Author.Needs.{needs}
-use Rattle.zsrm.specs.Fields.{lists}
+use Rattle.zsrm.specs.Code.Fields.{lists}
 use Rattle.zsrm.specs.Tables.{idle}
-use Rattle.zsrm.specs.View.{hasPriority}
-use Rattle.zsrm.specs.Claims.{mayRun}
+use Rattle.zsrm.specs.Code.View.{hasPriority}
+use Rattle.zsrm.specs.Code.Claims.{mayRun}
 use Rattle.zsrm.proofs.claims.may_run.Statement.{statement}
 use Rattle.zsrm.proofs.claims.may_run.Tie as tie
 

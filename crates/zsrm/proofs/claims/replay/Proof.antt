@@ -1,12 +1,10 @@
 -- What is left to claim from tick t on is what the whole schedule claims.
-use Prim.Native.Nat.{ℕ, _-_, _≤_}
-use mathlib.Core.Path.{_≡_, refl, sym, _∙_}
-use mathlib.Core.Bool.{true, false}
+use Prim.Native.Nat.{_-_, _≤_}
+use mathlib.Core.Path.{refl, sym, _∙_}
 use native.Mathlib.Omega.{arith}
 use lib.ListN.{length}
 use borrow.Author.Needs.{needs}
 use Rattle.zsrm.specs.Answers.{given}
-use Rattle.zsrm.specs.Claims.{ReplayedAs}
 use Rattle.zsrm.proofs.Laws.Claims.{Replaying, replaying-none, replaying-more, replaying-stops, replaying-ends, replayed-stopped, tried-says}
 use Rattle.zsrm.proofs.claims.replay.Statement.{statement}
 use Rattle.zsrm.proofs.claims.replay.Tie as tie
@@ -30,18 +28,20 @@ try-entry-requires c κs =
 loop-again : tie.Need-loop-again Inv-loop μ-loop
 loop-again c =
     let start = c .before .before .before .before .before .before .before .before .before .before in
+    let g = given (start .args .mode) (start .args .tasks .now) (start .args .jobs .now) in
     let at = c .before .before .before .before .before in
-    let s = tried-says (given (start .args .mode) (start .args .tasks .now) (start .args .jobs .now)) (at .loop .rec) (at .loop .last) _ _ (c .before .before .try-entry .ensures) in
+    let s = tried-says g (at .loop .rec) (at .loop .last) _ _ (c .before .before .try-entry .ensures) in
     let legal = sym (s .0) ∙ c .if1 .taken in
-    (omega arith, replaying-more (given (start .args .mode) (start .args .tasks .now) (start .args .jobs .now)) (start .args .schedule .now) (at .loop .rec) _ (at .loop .last) (at .loop .t) _ (at .loop .inv .1) (c .before .before .before .before .loop-test .taken) (start .pre .1) refl legal (s .1 legal))
+    (omega arith, replaying-more g (start .args .schedule .now) (at .loop .rec) _ (at .loop .last) (at .loop .t) _ (at .loop .inv .1) (c .before .before .before .before .loop-test .taken) (start .pre .1) refl legal (s .1 legal))
 
 returns : tie.Need-returns Inv-loop μ-loop
 returns c =
     let start = c .before .before .before .before .before .before .before .before .before .before in
+    let g = given (start .args .mode) (start .args .tasks .now) (start .args .jobs .now) in
     let at = c .before .before .before .before .before in
-    let s = tried-says (given (start .args .mode) (start .args .tasks .now) (start .args .jobs .now)) (at .loop .rec) (at .loop .last) _ _ (c .before .before .try-entry .ensures) in
-    replayed-stopped (given (start .args .mode) (start .args .tasks .now) (start .args .jobs .now)) (start .args .schedule .now) (at .loop .t) _
-    (replaying-stops (given (start .args .mode) (start .args .tasks .now) (start .args .jobs .now)) (start .args .schedule .now) (at .loop .rec) (at .loop .last) (at .loop .t) _ (at .loop .inv .1) (c .before .before .before .before .loop-test .taken) refl (sym (s .0) ∙ c .if1 .left))
+    let s = tried-says g (at .loop .rec) (at .loop .last) _ _ (c .before .before .try-entry .ensures) in
+    replayed-stopped g (start .args .schedule .now) (at .loop .t) _
+    (replaying-stops g (start .args .schedule .now) (at .loop .rec) (at .loop .last) (at .loop .t) _ (at .loop .inv .1) (c .before .before .before .before .loop-test .taken) refl (sym (s .0) ∙ c .if1 .left))
 
 returns-2 : tie.Need-returns-2 Inv-loop μ-loop
 returns-2 c =

@@ -1,6 +1,5 @@
 -- A legal entry may run, and the tick with it is the definition's.
 use mathlib.Core.Path.{sym, _∙_}
-use borrow.Author.Needs.{needs}
 use Rattle.zsrm.specs.Answers.{given}
 use Rattle.zsrm.proofs.Laws.Step.{lists-few}
 use Rattle.zsrm.proofs.Laws.Claims.{legal-may, tried-legal, tried-illegal}

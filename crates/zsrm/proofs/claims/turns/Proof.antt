@@ -1,11 +1,11 @@
 -- The reasons, as the calls answer them.
 use Prim.Native.Nat.{ℕ}
-use mathlib.Core.Path.{ap, ap₂, _∙_}
+use mathlib.Core.Path.{ap, ap₂}
 use mathlib.Core.Bool.{Bool, _&&_, _||_}
 use lib.Dec.{eqb}
 use borrow.Author.Needs.{needs}
 use Rattle.zsrm.specs.declared.tables.Job.{Job}
-use Rattle.zsrm.specs.Claims.{turnsAt}
+use Rattle.zsrm.specs.Code.Claims.{turnsAt}
 use Rattle.zsrm.proofs.claims.turns.Statement.{statement}
 use Rattle.zsrm.proofs.claims.turns.Tie as tie
 

@@ -4,7 +4,7 @@ use mathlib.Core.Path.{ap, ap₂, _∙_}
 use borrow.Author.Needs.{needs}
 use Rattle.zsrm.specs.declared.record.Standing.{Standing}
 use Rattle.zsrm.specs.declared.record.Place.{Place}
-use Rattle.zsrm.specs.Next.{nextStanding}
+use Rattle.zsrm.specs.Code.Next.{nextStanding}
 use Rattle.zsrm.proofs.next.next_place.Statement.{statement}
 use Rattle.zsrm.proofs.next.next_place.Tie as tie
 

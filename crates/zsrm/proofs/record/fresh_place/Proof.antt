@@ -7,7 +7,7 @@ use Rattle.zsrm.specs.declared.tables.Job.{Job}
 use Rattle.zsrm.specs.declared.record.Standing.{Standing}
 use Rattle.zsrm.specs.declared.record.Place.{Place}
 use Rattle.zsrm.specs.Record.{arrived, arriving, opening, freshPlace}
-use Rattle.zsrm.specs.Next.{openingOf}
+use Rattle.zsrm.specs.Code.Next.{openingOf}
 use Rattle.zsrm.proofs.record.fresh_place.Statement.{statement}
 use Rattle.zsrm.proofs.record.fresh_place.Tie as tie
 

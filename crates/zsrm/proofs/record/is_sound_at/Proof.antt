@@ -1,11 +1,10 @@
 -- The parts, as the calls answer them.
-use Prim.Native.Nat.{ℕ}
 use mathlib.Core.Path.{ap, ap₂, _∙_}
 use mathlib.Core.Bool.{Bool}
 use borrow.Author.Needs.{needs}
 use Rattle.zsrm.specs.declared.tables.Job.{Job}
 use Rattle.zsrm.specs.Tables.{arrival, execution}
-use Rattle.zsrm.specs.Record.{arrived, isSE, soundPlace}
+use Rattle.zsrm.specs.Record.{isSE, soundPlace}
 use Rattle.zsrm.proofs.record.is_sound_at.Statement.{statement}
 use Rattle.zsrm.proofs.record.is_sound_at.Tie as tie
 

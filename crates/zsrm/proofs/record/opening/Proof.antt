@@ -1,6 +1,5 @@
 -- Each branch is the one that the tests pick.
 use borrow.Author.Tests.{eq-eqb, ne-eqb}
-use borrow.Author.Needs.{needs}
 use Rattle.zsrm.proofs.record.opening.Statement.{statement}
 use Rattle.zsrm.proofs.record.opening.Tie as tie
 

@@ -7,7 +7,7 @@ use Rattle.zsrm.proofs.refusals.check7.Tie as tie
 
 returns : tie.Need-returns
 unfolding check7
-returns c tasks =
+returns c =
     let read = c .before .before .before in
     rw
     (c .refuse .ensures, lt-ltb _ _ (read .before .before .if1 .taken), read .job-at2 .ensures, read .before .job-at .ensures)
@@ -17,4 +17,4 @@ unfolding refuse check7
 check7-spec =
     tie.close
     (tie.spec (λ c κs. search needs) (λ c. search needs) (λ c κs. search needs) (λ c κs. search needs) returns
-    (λ c tasks. rw (le-ltb _ _ (c .if1 .left))))
+    (λ c. rw (le-ltb _ _ (c .if1 .left))))

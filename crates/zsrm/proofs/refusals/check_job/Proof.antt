@@ -1,16 +1,15 @@
--- What the calls say, put together; 7 says it of every table, so of this one.
+-- What the calls say, put together.
 use borrow.Author.Needs.{needs}
 use Rattle.zsrm.proofs.refusals.check_job.Statement.{statement}
 use Rattle.zsrm.proofs.refusals.check_job.Tie as tie
 
 returns : tie.Need-returns
 returns c =
-    let tasks = c .before .before .before .before .before .before .before .args .tasks .now in
     rw (
       c .before3 .ensures,
       c .before .before2 .ensures,
       c .before .before .check8 .ensures,
-      c .before .before .before .check7 .ensures tasks,
+      c .before .before .before .check7 .ensures,
       c .before .before .before .before .check6 .ensures,
     )
 

@@ -14,7 +14,7 @@ use Rattle.zsrm.proofs.refusals.check_jobs.Tie as tie
 abbrev Inv-loop : tie.InvT-loop
 Inv-loop tasks jobs count found₀ j₀ found j =
     (j ≤ count) × (count ≤ 64)
-    × (found ≡ ascending j (λ j. before (check6 tasks jobs j) (before (check7 tasks jobs j) (check8 tasks jobs j))))
+    × (found ≡ ascending j (λ j. before (check6 tasks jobs j) (before (check7 jobs j) (check8 tasks jobs j))))
 
 abbrev μ-loop : tie.MeasureT-loop
 μ-loop tasks jobs count found₀ j₀ found j = count - j

@@ -5,11 +5,9 @@ use native.Mathlib.Omega.{arith}
 use lib.ListN.{length, take, length-set}
 use lib.Seq.{take-all}
 use borrow.Author.Needs.{needs}
-use Rattle.zsrm.specs.declared.record.Record.{Record}
 use Rattle.zsrm.specs.Run.{entries, final}
 use Rattle.zsrm.specs.Answers.{given}
 use Rattle.zsrm.proofs.Laws.Going.{Going, entries-none, going-none, going-more, going-writes, steps-entry}
-use Prim.Native.Nat.{ℕ}
 use Rattle.zsrm.proofs.runs.run_from.Statement.{statement}
 use Rattle.zsrm.proofs.runs.run_from.Tie as tie
 
@@ -23,7 +21,8 @@ abbrev μ-loop : tie.MeasureT-loop
 loop-holds : tie.Need-loop-holds Inv-loop μ-loop
 loop-holds c =
     let start = c .before .before .before in
-    (omega arith, refl, going-none (given (start .args .mode) (start .args .tasks .now) (start .args .jobs .now)) (start .args .start) (start .pre .1 .0), sym (entries-none (given (start .args .mode) (start .args .tasks .now) (start .args .jobs .now)) (start .args .start)))
+    let g = given (start .args .mode) (start .args .tasks .now) (start .args .jobs .now) in
+    (omega arith, refl, going-none g (start .args .start) (start .pre .1 .0), sym (entries-none g (start .args .start)))
 
 advance-requires : tie.Need-advance-requires Inv-loop μ-loop
 advance-requires c κs =
@@ -37,22 +36,24 @@ loop-again : tie.Need-loop-again Inv-loop μ-loop
 loop-again c =
     let at = c .before .before .before in
     let start = c .before .before .before .before .before .before .before in
-    let s = steps-entry (given (start .args .mode) (start .args .tasks .now) (start .args .jobs .now)) (at .loop .rec) _ (c .before .advance .ensures) in
+    let g = given (start .args .mode) (start .args .tasks .now) (start .args .jobs .now) in
+    let s = steps-entry g (at .loop .rec) _ (c .before .advance .ensures) in
     let fits = start .pre .1 .1 in
     let more = c .before .before .loop-test .taken in (
       omega arith,
       length-set (at .loop .schedule) (at .loop .t) _ ∙ at .loop .inv .1,
-      going-more (given (start .args .mode) (start .args .tasks .now) (start .args .jobs .now)) (start .args .start) (at .loop .rec) _ (at .loop .t) (at .loop .inv .2) (omega (arith, at .loop .inv .1)) (s .1),
-      going-writes (given (start .args .mode) (start .args .tasks .now) (start .args .jobs .now)) (start .args .start) (at .loop .rec) (at .loop .schedule) (at .loop .t) _ (at .loop .inv .2) (at .loop .inv .3) more (s .0),
+      going-more g (start .args .start) (at .loop .rec) _ (at .loop .t) (at .loop .inv .2) (omega (arith, at .loop .inv .1)) (s .1),
+      going-writes g (start .args .start) (at .loop .rec) (at .loop .schedule) (at .loop .t) _ (at .loop .inv .2) (at .loop .inv .3) more (s .0),
     )
 
 returns : tie.Need-returns Inv-loop μ-loop
 returns c =
     let at = c .before in
     let start = c .before .before .before .before .before in
+    let g = given (start .args .mode) (start .args .tasks .now) (start .args .jobs .now) in
     let last : at .loop .t ≡ length (start .args .schedule .now) = omega (arith, at .loop .inv .1) in (
-      at .loop .inv .2 .is ∙ ap (final (given (start .args .mode) (start .args .tasks .now) (start .args .jobs .now)) (start .args .start)) last,
-      sym (take-all (at .loop .t) (at .loop .schedule) (omega (arith, at .loop .inv .1))) ∙ at .loop .inv .3 ∙ ap (entries (given (start .args .mode) (start .args .tasks .now) (start .args .jobs .now)) (start .args .start)) last,
+      at .loop .inv .2 .is ∙ ap (final g (start .args .start)) last,
+      sym (take-all (at .loop .t) (at .loop .schedule) (omega (arith, at .loop .inv .1))) ∙ at .loop .inv .3 ∙ ap (entries g (start .args .start)) last,
     )
 
 pub run-from-spec : {M : Type 1} → statement M

@@ -1,8 +1,6 @@
 -- The checks in their order, as the calls answer them.
-use mathlib.Core.Bool.{Bool}
 use mathlib.Core.Path.{ap, ap₂, _∙_}
 use borrow.Author.Needs.{needs}
-use Rattle.zsrm.specs.declared.answers.Outcome.{Outcome}
 use Rattle.zsrm.specs.Refusals.{before, check11, check12}
 use Rattle.zsrm.specs.Answers.{checkGiven, checkStep}
 use Rattle.zsrm.proofs.step.check_step.Statement.{statement}

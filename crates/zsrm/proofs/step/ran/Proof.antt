@@ -1,7 +1,6 @@
 -- In each outcome the definition's own case.
 use mathlib.Core.Path.{ap}
 use borrow.Author.Needs.{needs}
-use Rattle.zsrm.specs.declared.answers.Outcome.{Outcome}
 use Rattle.zsrm.specs.declared.record.Record.{Record}
 use Rattle.zsrm.specs.declared.answers.Outcome.the-variants.{Refused}
 use Rattle.zsrm.specs.declared.answers.Ran.{Ran}

@@ -1,7 +1,7 @@
 -- The task that the job's own field names.
 use mathlib.Core.Path.{ap, _∙_}
 use Rattle.zsrm.specs.declared.tables.Job.{Job}
-use Rattle.zsrm.specs.Fields.{taskAt}
+use Rattle.zsrm.specs.Code.Fields.{taskAt}
 use borrow.Author.Needs.{needs}
 use Rattle.zsrm.proofs.tables.task_of.Statement.{statement}
 use Rattle.zsrm.proofs.tables.task_of.Tie as tie

@@ -4,7 +4,7 @@ use mathlib.Core.Path.{ap, ap₂, _∙_}
 use mathlib.Core.Bool.{Bool, _&&_}
 use lib.Dec.{eqb}
 use borrow.Author.Needs.{needs}
-use Rattle.zsrm.specs.View.{hasPriority}
+use Rattle.zsrm.specs.Code.View.{hasPriority}
 use Rattle.zsrm.proofs.tick.has_priority.Statement.{statement}
 use Rattle.zsrm.proofs.tick.has_priority.Tie as tie
 

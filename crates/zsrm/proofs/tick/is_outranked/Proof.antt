@@ -1,14 +1,14 @@
 -- No job below i outranks c.
-use Prim.Native.Nat.{ℕ, _-_, _≤_}
+use Prim.Native.Nat.{_-_, _≤_}
 use mathlib.Core.Path.{_≡_, refl, sym, _∙_}
-use mathlib.Core.Bool.{true, false}
+use mathlib.Core.Bool.{false}
 use native.Mathlib.Omega.{arith}
 use borrow.Author.Needs.{needs}
 use Rattle.bits.specs.Below.{some}
 use Rattle.bits.proofs.Below.{some-true, scan-on, scan-end}
-use Rattle.zsrm.specs.Fields.{lists}
+use Rattle.zsrm.specs.Code.Fields.{lists}
 use Rattle.zsrm.specs.Tick.{someJob}
-use Rattle.zsrm.specs.View.{outranks, outranked}
+use Rattle.zsrm.specs.Code.View.{outranks, outranked}
 use Rattle.zsrm.proofs.tick.is_outranked.Statement.{statement}
 use Rattle.zsrm.proofs.tick.is_outranked.Tie as tie
 

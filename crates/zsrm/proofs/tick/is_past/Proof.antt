@@ -4,7 +4,7 @@ use mathlib.Core.Path.{ap₂}
 use mathlib.Core.Bool.{Bool, _&&_}
 use lib.Dec.{leb}
 use borrow.Author.Needs.{needs}
-use Rattle.zsrm.specs.View.{isPast}
+use Rattle.zsrm.specs.Code.View.{isPast}
 use Rattle.zsrm.proofs.tick.is_past.Statement.{statement}
 use Rattle.zsrm.proofs.tick.is_past.Tie as tie
 

@@ -1,9 +1,8 @@
 -- A job in the set is compared with the other set; another does not lie below.
-use Prim.Native.Nat.{ℕ}
 use mathlib.Core.Path.{sym, ap, _∙_}
 use borrow.Author.Needs.{needs}
-use Rattle.zsrm.specs.Fields.{lists}
-use Rattle.zsrm.specs.View.{outranked, liesBelow}
+use Rattle.zsrm.specs.Code.Fields.{lists}
+use Rattle.zsrm.specs.Code.View.{outranked, liesBelow}
 use Rattle.zsrm.proofs.tick.lies_below.Statement.{statement}
 use Rattle.zsrm.proofs.tick.lies_below.Tie as tie
 

@@ -1,14 +1,14 @@
 -- No job below j is in the set and has the priority.
-use Prim.Native.Nat.{ℕ, _-_, _≤_}
+use Prim.Native.Nat.{_-_, _≤_}
 use mathlib.Core.Path.{_≡_, refl, sym, _∙_}
-use mathlib.Core.Bool.{true, false}
+use mathlib.Core.Bool.{false}
 use native.Mathlib.Omega.{arith}
 use borrow.Author.Needs.{needs}
 use Rattle.bits.specs.Below.{some}
 use Rattle.bits.proofs.Below.{least-is, least-none, scan-on, scan-end}
 use Rattle.zsrm.specs.Tables.{idle}
-use Rattle.zsrm.specs.Fields.{lists}
-use Rattle.zsrm.specs.View.{hasPriority, lowestOf}
+use Rattle.zsrm.specs.Code.Fields.{lists}
+use Rattle.zsrm.specs.Code.View.{hasPriority, lowestOf}
 use Rattle.zsrm.proofs.tick.lowest_of.Statement.{statement}
 use Rattle.zsrm.proofs.tick.lowest_of.Tie as tie
 

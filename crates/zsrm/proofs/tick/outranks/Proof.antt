@@ -3,7 +3,7 @@ use Prim.Native.Nat.{ℕ}
 use mathlib.Core.Path.{sym, ap, _∙_}
 use lib.Dec.{ltb}
 use borrow.Author.Needs.{needs}
-use Rattle.zsrm.specs.View.{outranks}
+use Rattle.zsrm.specs.Code.View.{outranks}
 use Rattle.zsrm.proofs.tick.outranks.Statement.{statement}
 use Rattle.zsrm.proofs.tick.outranks.Tie as tie
 

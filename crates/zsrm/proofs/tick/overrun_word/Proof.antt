@@ -9,9 +9,9 @@ use Prim.Native.Nat.{ℕ}
 use mathlib.Core.Bool.{Bool}
 use Rattle.zsrm.specs.declared.record.Record.{Record}
 use Rattle.zsrm.specs.Tables.{Given}
-use Rattle.zsrm.specs.Fields.{lists}
+use Rattle.zsrm.specs.Code.Fields.{lists}
 use Rattle.zsrm.specs.Record.{placeAt, doneAt}
-use Rattle.zsrm.specs.View.{overruns, overrunWord}
+use Rattle.zsrm.specs.Code.View.{overruns, overrunWord}
 use Rattle.zsrm.proofs.Laws.View.{collected}
 use Rattle.zsrm.proofs.tick.overrun_word.Statement.{statement}
 use Rattle.zsrm.proofs.tick.overrun_word.Tie as tie

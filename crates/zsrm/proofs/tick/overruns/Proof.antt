@@ -1,10 +1,9 @@
 -- Both tests, as the calls answer them.
-use Prim.Native.Nat.{ℕ}
 use mathlib.Core.Path.{ap₂}
 use mathlib.Core.Bool.{Bool, _&&_}
 use lib.Dec.{ltb}
 use borrow.Author.Needs.{needs}
-use Rattle.zsrm.specs.View.{overruns}
+use Rattle.zsrm.specs.Code.View.{overruns}
 use Rattle.zsrm.proofs.tick.overruns.Statement.{statement}
 use Rattle.zsrm.proofs.tick.overruns.Tie as tie
 

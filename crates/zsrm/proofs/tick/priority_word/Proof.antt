@@ -6,9 +6,9 @@ use borrow.Author.Needs.{needs}
 use Rattle.bits.specs.Below.{word, bit}
 use Rattle.bits.proofs.Word.{keyed, keyed-none, keyed-collect}
 use Rattle.zsrm.specs.Tables.{jobPriority}
-use Rattle.zsrm.specs.Fields.{lists}
+use Rattle.zsrm.specs.Code.Fields.{lists}
 use Rattle.zsrm.specs.Tick.{someJob}
-use Rattle.zsrm.specs.View.{hasPriority, priorityWord}
+use Rattle.zsrm.specs.Code.View.{hasPriority, priorityWord}
 use Prim.Native.Nat.{ℕ}
 use mathlib.Core.Bool.{cond}
 use Rattle.bits.specs.Word.{withBit}

@@ -1,6 +1,6 @@
 -- A finishing instant lies within the schedule, at or after arrival; every other standing has the empty part.
 use Prim.Native.Nat.{ℕ, _≤_, _-_}
-use mathlib.Core.Path.{_≡_, refl, sym, ap, _∙_, subst}
+use mathlib.Core.Path.{_≡_, refl, ap, subst}
 use mathlib.Core.List.{List, [], _∷_}
 use mathlib.Core.Logic.{_⊎_, inl, inr}
 use native.Mathlib.Omega.{arith}
@@ -12,9 +12,9 @@ use Rattle.zsrm.specs.declared.record.Standing.{Standing}
 use Rattle.zsrm.specs.declared.record.Standing.the-variants.{NotArrived, Unfinished, Finished, Ended}
 use Rattle.zsrm.specs.declared.tables.Job.{Job}
 use Rattle.zsrm.specs.Tables.{arrival}
-use Rattle.zsrm.specs.Fields.{jobAt}
+use Rattle.zsrm.specs.Code.Fields.{jobAt}
 use Rattle.zsrm.specs.Verdict.{partTo}
-use Rattle.zsrm.specs.Claims.{FitsIn}
+use Rattle.zsrm.specs.Code.Claims.{FitsIn}
 use Rattle.zsrm.proofs.record.Standing.{the-type}
 use Rattle.zsrm.proofs.verdicts.finished_part.Statement.{statement}
 use Rattle.zsrm.proofs.verdicts.finished_part.Tie as tie

@@ -20,16 +20,18 @@ returns : tie.Need-returns
 unfolding verdictAnswer
 returns c =
     let start = c .before .before .before .before .before .before in
+    let g = given (start .args .mode) (start .args .tasks .now) (start .args .jobs .now) in
     let a = start .args in
     c .judge-at .ensures ∙ verdict-any (start .args .mode) (start .args .tasks .now) (start .args .jobs .now) (a .rec) (a .job)
-    ∙ sym (unless-done verdicts.Refused (verdict (given (start .args .mode) (start .args .tasks .now) (start .args .jobs .now)) (a .rec) (a .job)) (checkVerdict (given (start .args .mode) (start .args .tasks .now) (start .args .jobs .now)) (a .rec) (a .job)) (sym (c .before .before .before .check-verdict .ensures) ∙ c .before .enum-told .given .1))
+    ∙ sym (unless-done verdicts.Refused (verdict g (a .rec) (a .job)) (checkVerdict g (a .rec) (a .job)) (sym (c .before .before .before .check-verdict .ensures) ∙ c .before .enum-told .given .1))
 
 returns-2 : tie.Need-returns-2
 unfolding verdictAnswer
 returns-2 c =
     let start = c .before .before .before .before .before .before in
+    let g = given (start .args .mode) (start .args .tasks .now) (start .args .jobs .now) in
     let a = start .args in
-    sym (unless-refused verdicts.Refused (verdict (given (start .args .mode) (start .args .tasks .now) (start .args .jobs .now)) (a .rec) (a .job)) (checkVerdict (given (start .args .mode) (start .args .tasks .now) (start .args .jobs .now)) (a .rec) (a .job)) _ _ (sym (c .before .before .before .check-verdict .ensures) ∙ c .before .checked .given .1))
+    sym (unless-refused verdicts.Refused (verdict g (a .rec) (a .job)) (checkVerdict g (a .rec) (a .job)) _ _ (sym (c .before .before .before .check-verdict .ensures) ∙ c .before .checked .given .1))
 
 pub verdict-spec : {M : Type 1} → statement M
 verdict-spec = tie.close (tie.spec (λ c κs. search needs) (λ c. search needs) judge-at-requires (λ c. search needs) returns returns-2)

@@ -1,5 +1,4 @@
 -- What is seen, chosen and advanced to is the step of the definition.
-use mathlib.Core.Path.{_∙_}
 use Rattle.zsrm.proofs.Laws.Step.{lists-few, our-choice, our-choice-runs, stepped-made}
 use borrow.Author.Needs.{needs}
 use Rattle.zsrm.proofs.record.Record.advance.Statement.{statement}

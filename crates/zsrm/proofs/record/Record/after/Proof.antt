@@ -1,12 +1,11 @@
 -- The places of the jobs below j are the next ones; the others are as they were.
 use Prim.Native.Nat.{_-_, _≤_}
-use mathlib.Core.Path.{_≡_, refl, sym, ap, _∙_}
+use mathlib.Core.Path.{refl}
 use native.Mathlib.Omega.{arith}
-use lib.ListN.{length, length-map}
 use borrow.Author.Needs.{needs}
 use Rattle.bits.proofs.Arrays.{written-none, written-more, length-of-map}
 use Rattle.zsrm.specs.Record.{empty, doneAt, placeAt}
-use Rattle.zsrm.specs.Next.{nextAt}
+use Rattle.zsrm.specs.Code.Next.{nextAt}
 use Rattle.zsrm.proofs.Laws.Next.{Made, next-at, next-made}
 use Rattle.zsrm.proofs.record.Record.after.Statement.{statement}
 use Rattle.zsrm.proofs.record.Record.after.Tie as tie

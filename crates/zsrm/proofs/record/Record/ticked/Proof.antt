@@ -1,10 +1,9 @@
 -- The jobs that the code ends are those that the tick ends, and so the next record is the advanced one.
-use Prim.Native.Nat.{ℕ}
 use mathlib.Core.Path.{ap, _∙_}
 use native.Mathlib.Omega.{arith}
 use borrow.Author.Needs.{needs}
 use Rattle.zsrm.specs.Answers.{given}
-use Rattle.zsrm.specs.Next.{nextRecord}
+use Rattle.zsrm.specs.Code.Next.{nextRecord}
 use Rattle.zsrm.proofs.Laws.View.{ended-seen}
 use Rattle.zsrm.proofs.Laws.Next.{next-advanced}
 use Rattle.zsrm.proofs.Laws.Ranges.{in-range}

@@ -1,6 +1,6 @@
 -- Each word is made from those before it, as the definition has it.
 use borrow.Author.Needs.{needs}
-use Rattle.zsrm.specs.Fields.{lists}
+use Rattle.zsrm.specs.Code.Fields.{lists}
 use Rattle.zsrm.proofs.Laws.View.{view-made}
 use Rattle.zsrm.proofs.tick.View.at.Statement.{statement}
 use Rattle.zsrm.proofs.tick.View.at.Tie as tie

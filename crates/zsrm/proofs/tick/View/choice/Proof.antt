@@ -1,9 +1,8 @@
 -- The highest bit of the ready word is the top priority.
-use Prim.Native.Nat.{ℕ}
 use mathlib.Core.Path.{ap, _∙_}
 use borrow.Author.Needs.{needs}
-use Rattle.zsrm.specs.Fields.{lists}
-use Rattle.zsrm.specs.View.{lowestOf, chosen}
+use Rattle.zsrm.specs.Code.Fields.{lists}
+use Rattle.zsrm.specs.Code.View.{lowestOf, chosen}
 use Rattle.zsrm.proofs.tick.View.choice.Statement.{statement}
 use Rattle.zsrm.proofs.tick.View.choice.Tie as tie
 

@@ -1,5 +1,5 @@
--- How the code checks an entry of a claim, from the view of the record, and what it asks before it shows a part. No contract that callers see cites it; the laws in
--- proofs/Laws/Claims join it to "Legal schedules".
+-- How the code checks an entry of a claim, from the view of the record, and what it asks before it shows a part. No contract that callers
+-- see cites it; the laws in proofs/Laws/Claims join it to "Legal schedules".
 use Prim.Native.Nat.{ℕ, _≤_}
 use mathlib.Core.Bool.{Bool, _&&_, _||_, cond}
 use mathlib.Core.List.{List}
@@ -17,16 +17,16 @@ use Rattle.zsrm.specs.declared.claims.Replayed.{Replayed}
 use Rattle.zsrm.specs.declared.answers.Claim.the-variants.{Legal}
 use Rattle.zsrm.specs.Tables.{Given, idle, jobCount, arrival, jobNominal, zeroSlackInstant}
 use Rattle.zsrm.specs.Tick.{advanced}
-use Rattle.zsrm.specs.View.{hasPriority}
+use Rattle.zsrm.specs.Code.View.{hasPriority}
 use Rattle.zsrm.specs.Run.{replayed}
 use Rattle.zsrm.specs.Legal.{finishedAt, legalEntry, claim}
 
 module _ (g : Given) where
-  -- job j, at the place p, makes tick t a scheduling instant, the entry before being b
+  -- job j, at the place p, makes tick t a scheduling instant, the entry before being last
   unfoldable pub turnsAt : Bool → ℕ → ℕ → ℕ → Place → Bool
-  turnsAt se b t j p =
+  turnsAt se last t j p =
       eqb (arrival (g .jobs) j) t || finishedAt t (p .standing) || eqb (zeroSlackInstant g j) t
-      || (se && eqb b j && eqb (p .done) (jobNominal g j))
+      || (se && eqb last j && eqb (p .done) (jobNominal g j))
 
   -- an eligible job of the top priority that is ready, or idle where none is ready
   unfoldable pub mayRun : View → ℕ → Bool
@@ -36,7 +36,7 @@ module _ (g : Given) where
 
   -- whether the entry is legal, and the record that it leads to
   unfoldable pub tried : Record → ℕ → ℕ → Tried
-  tried r b e = record { legal = legalEntry g r b e; «record» = cond (legalEntry g r b e) (advanced g r e) r }
+  tried r last e = record { legal = legalEntry g r last e; «record» = cond (legalEntry g r last e) (advanced g r e) r }
 
 -- what replaying a schedule finds, and where it is legal the record at its end
 pub record ReplayedAs (g : Given) (schedule : List ℕ) (r : Replayed) : Type 0 where
