@@ -10,18 +10,18 @@ use lib.ListN.{drop, getD, length, take}
 use lib.Seq.{drop-at, length-take-le, sets-eq}
 use borrow.Author.Tests.{le-leb, ltb-false, ltb-true}
 use Rattle.decimal.specs.declared.Number.the-variants.{Value}
-use Rattle.decimal.specs.Decimal.{after, decimal, digits, isDigit, judged, numberAt, run, size, spelled}
-use Rattle.decimal.proofs.Reading.{digit-yes, run-stop}
+use Rattle.decimal.specs.Decimal.{after, decimal, digits, isDigit, asNumber, numberAt, leading, size, spelled}
+use Rattle.decimal.proofs.Reading.{digit-yes, leading-stop}
 use Rattle.decimal.proofs.Writing.{holds, length-digits, size-more, size-one}
 
 -- every byte written is a digit
-run-digits : (n x : ℕ) (r : List ℕ) → run (digits n x ++ r) ≡ digits n x ++ run r
-unfolding digits run
-run-digits zero x r = refl
-run-digits (suc n) x r =
+leading-digits : (n x : ℕ) (r : List ℕ) → leading (digits n x ++ r) ≡ digits n x ++ leading r
+unfolding digits leading
+leading-digits zero x r = refl
+leading-digits (suc n) x r =
     let d : isDigit (48 + x % 10) ≡ true = digit-yes (48 + x % 10) (omega arith) (omega arith) in
     let front = append-assoc (digits n (x / 10)) ((48 + x % 10) ∷ []) in
-    rw (front r, front (run r), run-digits n (x / 10) ((48 + x % 10) ∷ r), d)
+    rw (front r, front (leading r), leading-digits n (x / 10) ((48 + x % 10) ∷ r), d)
 
 spelled-last : (acc : ℕ) (xs : List ℕ) (d : ℕ) → spelled acc (xs ++ (d ∷ [])) ≡ spelled acc xs * 10 + (d - 48)
 unfolding spelled
@@ -69,7 +69,7 @@ sizes (suc n) (suc m) x h l =
 
 pub read-back : (out : List ℕ) (at x : ℕ) → x < 100000 → at + size 10 x ≤ length out → isDigit (getD out (at + size 10 x) 256) ≡ false
     → numberAt (after out at x) at ≡ Value x (at + size 10 x)
-unfolding numberAt judged decimal
+unfolding numberAt asNumber decimal
 read-back out at x h room end =
     let s = sizes 9 4 x h (omega arith) in
     let n = length-digits (size 10 x) x in
@@ -77,6 +77,6 @@ read-back out at x h room end =
     = holds out at x room ∙ sets-eq (decimal x) out at (omega arith) ∙ rw (n, append-assoc) in
     let d : drop at (after out at x) ≡ decimal x ++ drop (at + size 10 x) out
     = ap (drop at) w ∙ drop-at (take at out) _ at (length-take-le at out (omega arith)) in
-    let r : run (drop at (after out at x)) ≡ digits (size 10 x) x
-    = ap run d ∙ run-digits (size 10 x) x _ ∙ rw (run-stop out _ end, append-nil) in
+    let r : leading (drop at (after out at x)) ≡ digits (size 10 x) x
+    = ap leading d ∙ leading-digits (size 10 x) x _ ∙ rw (leading-stop out _ end, append-nil) in
     rw (r, n, le-leb _ _ (s .some), le-leb _ _ (s .most), spelled-digits (size 10 x) x (s .enough))

@@ -11,7 +11,7 @@ use lib.ListN.{drop, getD, length}
 use lib.Seq.{drop-nil}
 use borrow.Author.Tests.{le-leb, leb-true, lt-leb}
 use Rattle.decimal.specs.declared.Number.the-variants.{Malformed, Value}
-use Rattle.decimal.specs.Decimal.{isDigit, judged, numberAt, run, spelled}
+use Rattle.decimal.specs.Decimal.{isDigit, asNumber, numberAt, leading, spelled}
 
 -- within a list the default does not count
 pub getD-any : (l : List ℕ) (i d e : ℕ) → i < length l → getD l i d ≡ getD l i e
@@ -25,17 +25,17 @@ in-range [] i h = absurd (omega arith)
 in-range (x ∷ xs) zero h = omega arith
 in-range (x ∷ xs) (suc i) h = let r = in-range xs i h in omega arith
 
-pub run-more : (s : List ℕ) (k : ℕ) → isDigit (getD s k 256) ≡ true → run (drop k s) ≡ getD s k 256 ∷ run (drop (suc k) s)
-unfolding run
-run-more [] k e = let z : _≡_ {A = ℕ} 0 1 = cc in absurd (omega arith)
-run-more (x ∷ xs) zero e = rw e
-run-more (x ∷ xs) (suc k) e = run-more xs k e
+pub leading-more : (s : List ℕ) (k : ℕ) → isDigit (getD s k 256) ≡ true → leading (drop k s) ≡ getD s k 256 ∷ leading (drop (suc k) s)
+unfolding leading
+leading-more [] k e = let z : _≡_ {A = ℕ} 0 1 = cc in absurd (omega arith)
+leading-more (x ∷ xs) zero e = rw e
+leading-more (x ∷ xs) (suc k) e = leading-more xs k e
 
-pub run-stop : (s : List ℕ) (k : ℕ) → isDigit (getD s k 256) ≡ false → run (drop k s) ≡ []
-unfolding run
-run-stop [] k e = rw drop-nil
-run-stop (x ∷ xs) zero e = rw e
-run-stop (x ∷ xs) (suc k) e = run-stop xs k e
+pub leading-stop : (s : List ℕ) (k : ℕ) → isDigit (getD s k 256) ≡ false → leading (drop k s) ≡ []
+unfolding leading
+leading-stop [] k e = rw drop-nil
+leading-stop (x ∷ xs) zero e = rw e
+leading-stop (x ∷ xs) (suc k) e = leading-stop xs k e
 
 pub digit-yes : (b : ℕ) → 48 ≤ b → b ≤ 57 → isDigit b ≡ true
 digit-yes b l h = rw (le-leb _ _ l, le-leb _ _ h)
@@ -51,8 +51,8 @@ pub record Read (s : List ℕ) (at value n k : ℕ) : Type 0 where
   pub few : n ≤ 5
   pub place : k ≡ at + n
   pub small : value < 10 ^ n
-  pub same : spelled 0 (run (drop at s)) ≡ spelled value (run (drop k s))
-  pub count : length (run (drop at s)) ≡ n + length (run (drop k s))
+  pub same : spelled 0 (leading (drop at s)) ≡ spelled value (leading (drop k s))
+  pub count : length (leading (drop at s)) ≡ n + length (leading (drop k s))
 
 pub read-none : (s : List ℕ) (at : ℕ) → Read s at 0 0 at
 read-none s at = record { few = omega arith; place = omega arith; small = lit< tt; same = refl; count = omega arith }
@@ -66,7 +66,7 @@ module _ {s : List ℕ} {at value n k : ℕ} (r : Read s at value n k) where
   pub read-more : (b : ℕ) → n < 5 → b ≡ getD s k 256 → 48 ≤ b → b ≤ 57 → Read s at (value * 10 + (b - 48)) (n + 1) (k + 1)
   unfolding spelled
   read-more b l e lo hi =
-      let m : run (drop k s) ≡ b ∷ run (drop (k + 1) s) = rw (add-one, e) (run-more s k (rw (← e) (digit-yes b lo hi))) in
+      let m : leading (drop k s) ≡ b ∷ leading (drop (k + 1) s) = rw (add-one, e) (leading-more s k (rw (← e) (digit-yes b lo hi))) in
       let p : 10 ^ (n + 1) ≡ 10 ^ n * 10 = rw add-one (pow-suc 10 n) in
       let v = r .small in
       let c = r .count in
@@ -81,42 +81,42 @@ module _ {s : List ℕ} {at value n k : ℕ} (r : Read s at value n k) where
       }
 
   pub read-long : (b : ℕ) → 5 ≤ n → b ≡ getD s k 256 → 48 ≤ b → b ≤ 57 → numberAt s at ≡ Malformed
-  unfolding numberAt judged
+  unfolding numberAt asNumber
   read-long b l e lo hi =
-      let m : run (drop k s) ≡ b ∷ run (drop (suc k) s) = rw e (run-more s k (rw (← e) (digit-yes b lo hi))) in
+      let m : leading (drop k s) ≡ b ∷ leading (drop (suc k) s) = rw e (leading-more s k (rw (← e) (digit-yes b lo hi))) in
       let c = r .count in
       let c′ = ap length m in
-      let long : 5 < length (run (drop at s)) = omega arith in
-      let some : 1 ≤ length (run (drop at s)) = omega arith in
+      let long : 5 < length (leading (drop at s)) = omega arith in
+      let some : 1 ≤ length (leading (drop at s)) = omega arith in
       rw (le-leb _ _ some, lt-leb _ _ long)
 
   pub read-end : isDigit (getD s k 256) ≡ false → 1 ≤ n → numberAt s at ≡ Value value k
-  unfolding numberAt judged spelled
+  unfolding numberAt asNumber spelled
   read-end e l =
-      let m = run-stop s k e in
+      let m = leading-stop s k e in
       let c = r .count in
       let c′ = ap length m in
       let q = r .place in
       let f = r .few in
-      let some : 1 ≤ length (run (drop at s)) = omega arith in
-      let few : length (run (drop at s)) ≤ 5 = omega arith in
-      let here : at + length (run (drop at s)) ≡ k = omega arith in
-      let val : spelled 0 (run (drop at s)) ≡ value = r .same ∙ rw m in
+      let some : 1 ≤ length (leading (drop at s)) = omega arith in
+      let few : length (leading (drop at s)) ≤ 5 = omega arith in
+      let here : at + length (leading (drop at s)) ≡ k = omega arith in
+      let val : spelled 0 (leading (drop at s)) ≡ value = r .same ∙ rw m in
       rw (le-leb _ _ some, le-leb _ _ few, here, val)
 
   pub read-nothing : isDigit (getD s k 256) ≡ false → n < 1 → numberAt s at ≡ Malformed
-  unfolding numberAt judged
+  unfolding numberAt asNumber
   read-nothing e l =
-      let m = run-stop s k e in
+      let m = leading-stop s k e in
       let c = r .count in
       let c′ = ap length m in
-      let none : length (run (drop at s)) < 1 = omega arith in
+      let none : length (leading (drop at s)) < 1 = omega arith in
       rw (lt-leb _ _ none)
 
 -- a number ends after at most 5 digits
 pub number-ends : (s : List ℕ) (at v k : ℕ) → numberAt s at ≡ Value v k → k ≤ at + 5
-unfolding numberAt judged
-number-ends s at v k = by-test (run (drop at s)) (leb 1 (length (run (drop at s)))) (leb (length (run (drop at s))) 5) refl
+unfolding numberAt asNumber
+number-ends s at v k = by-test (leading (drop at s)) (leb 1 (length (leading (drop at s)))) (leb (length (leading (drop at s))) 5) refl
   where
     by-test : (ds : List ℕ) (some few : Bool) → leb (length ds) 5 ≡ few → cond (some && few) (Value (spelled 0 ds) (at + length ds)) Malformed ≡ Value v k → k ≤ at + 5
     by-test ds true true q e =

@@ -79,7 +79,7 @@ module _ {x n rest : ℕ} (s : Sized x n rest) where
       let k = s .count in
       omega arith
 
--- a store before a run of stores
+-- a store before a row of stores
 set-sets : (d l : List ℕ) (i j a : ℕ) → j < i → set (sets l i d) j a ≡ sets (set l j a) i d
 set-sets [] l i j a h = refl
 set-sets (b ∷ d) l i j a h =

@@ -16,9 +16,9 @@ abbrev pub isDigit : ℕ → Bool
 isDigit b = leb 48 b && leb b 57
 
 -- the digits that a text begins with
-unfoldable pub run : List ℕ → List ℕ
-run [] = []
-run (b ∷ bs) = cond (isDigit b) (b ∷ run bs) []
+unfoldable pub leading : List ℕ → List ℕ
+leading [] = []
+leading (b ∷ bs) = cond (isDigit b) (b ∷ leading bs) []
 
 -- the number that digits spell, after digits that spelled acc
 unfoldable pub spelled : ℕ → List ℕ → ℕ
@@ -26,12 +26,12 @@ spelled acc [] = acc
 spelled acc (d ∷ ds) = spelled (acc * 10 + (d - 48)) ds
 
 -- 1 to 5 digits are a number, and it ends after them; leading zeros are allowed
-unfoldable pub judged : List ℕ → ℕ → Number
-judged ds at = cond (leb 1 (length ds) && leb (length ds) 5) (Value (spelled 0 ds) (at + length ds)) Malformed
+unfoldable pub asNumber : List ℕ → ℕ → Number
+asNumber ds at = cond (leb 1 (length ds) && leb (length ds) 5) (Value (spelled 0 ds) (at + length ds)) Malformed
 
 -- the number at a position: all the digits that follow
 unfoldable pub numberAt : List ℕ → ℕ → Number
-numberAt text at = judged (run (drop at text)) at
+numberAt text at = asNumber (leading (drop at text)) at
 
 -- the last n digits of x
 unfoldable pub digits : ℕ → ℕ → List ℕ

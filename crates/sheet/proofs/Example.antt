@@ -1,11 +1,11 @@
--- Document 01's example of the listing, and of refused inputs, by computation. Each row is one line of text, newline and all.
+-- Document 01's example of the listing, and refused texts, by computation: one table under one statement.
 use Prim.Native.Nat.{ℕ}
 use mathlib.Core.Path.{refl, _≡_}
-use mathlib.Core.List.{List, [], _∷_, _++_}
+use mathlib.Core.List.{List, [], _∷_, _++_, map}
 use Rattle.bits.specs.Below.{count, every, greatest, least, listFrom, some}
-use Rattle.decimal.specs.Decimal.{decimal, digits, judged, numberAt, run, size, spelled}
+use Rattle.decimal.specs.Decimal.{asNumber, decimal, digits, leading, numberAt, size, spelled}
 use Rattle.sheet.specs.Grammar.{fieldAt, firstLine, numbersFrom, parsedOf}
-use Rattle.sheet.specs.Listing.{behindFirst, entry, givenListing, jobLine, jobLines, judgedLine, line, listing, refusedLine, runLine, runListing, stretch, stretches, stretchesFrom, word, instant}
+use Rattle.sheet.specs.Listing.{behindFirst, entry, givenListing, instant, jobLine, jobLines, line, listing, printed, refusedLine, runLine, runListing, stretch, stretches, stretchesFrom, verdictLine, word}
 use Rattle.zsrm.specs.Answers.{checkGiven, unless}
 use Rattle.zsrm.specs.Record.{arrived, arriving, doneAt, fresh, freshPlace, opening, placeAt, standingAt}
 use Rattle.zsrm.specs.Refusals.{ascending, before, check2, check3, check4, check5, check6, check7, check8, check9, checkJobs, checkLists, checkTasks, outside, preceding, refuse}
@@ -44,21 +44,28 @@ output =
     ∷ (106 ∷ 111 ∷ 98 ∷ 32 ∷ 50 ∷ 32 ∷ 109 ∷ 101 ∷ 116 ∷ 32 ∷ 49 ∷ 51 ∷ 10 ∷ [])
     ∷ []
 
-pub example : listing (joined input) ≡ joined output
-unfolding some every least greatest count taskCount period deadline nominal overload criticality priority zeroSlack jobCount taskOf arrival execution jobCriticality jobPriority jobNominal zeroSlackInstant deadlineInstant refuse before ascending outside check2 check3 check4 checkTasks check5 preceding check6 check7 check8 checkJobs checkLists check9 placeAt doneAt standingAt arriving arrived opening freshPlace fresh alive someJob moreCritical higherPriority pastZeroSlack suspended eligible candidate choice doneAfter over ends finishes goesOn standingAfter placeAfter advanced replay entriesBy entries final runEntries runRecord verdict unless checkGiven listFrom run spelled judged numberAt digits size decimal fieldAt numbersFrom firstLine parsedOf behindFirst line refusedLine runLine entry stretch stretchesFrom stretches word instant judgedLine jobLine jobLines runListing givenListing listing
-example = refl
+-- a text and what is printed for it
+pub data Row : Type 0 where
+  prints : List ℕ → List ℕ → Row
 
--- six digits: S 000016 2 3 / refused 14 0
-pub long-number : listing (83 ∷ 32 ∷ 48 ∷ 48 ∷ 48 ∷ 48 ∷ 49 ∷ 54 ∷ 32 ∷ 50 ∷ 32 ∷ 51 ∷ 10 ∷ []) ≡ 114 ∷ 101 ∷ 102 ∷ 117 ∷ 115 ∷ 101 ∷ 100 ∷ 32 ∷ 49 ∷ 52 ∷ 32 ∷ 48 ∷ 10 ∷ []
-unfolding some every least greatest count taskCount period deadline nominal overload criticality priority zeroSlack jobCount taskOf arrival execution jobCriticality jobPriority jobNominal zeroSlackInstant deadlineInstant refuse before ascending outside check2 check3 check4 checkTasks check5 preceding check6 check7 check8 checkJobs checkLists check9 placeAt doneAt standingAt arriving arrived opening freshPlace fresh alive someJob moreCritical higherPriority pastZeroSlack suspended eligible candidate choice doneAfter over ends finishes goesOn standingAfter placeAfter advanced replay entriesBy entries final runEntries runRecord verdict unless checkGiven listFrom run spelled judged numberAt digits size decimal fieldAt numbersFrom firstLine parsedOf behindFirst line refusedLine runLine entry stretch stretchesFrom stretches word instant judgedLine jobLine jobLines runListing givenListing listing
-long-number = refl
+abbrev text : Row → List ℕ
+text (prints t l) = t
 
--- a small letter: s 16 0 0 / refused 14 0
-pub lower-case : listing (115 ∷ 32 ∷ 49 ∷ 54 ∷ 32 ∷ 48 ∷ 32 ∷ 48 ∷ 10 ∷ []) ≡ 114 ∷ 101 ∷ 102 ∷ 117 ∷ 115 ∷ 101 ∷ 100 ∷ 32 ∷ 49 ∷ 52 ∷ 32 ∷ 48 ∷ 10 ∷ []
-unfolding some every least greatest count taskCount period deadline nominal overload criticality priority zeroSlack jobCount taskOf arrival execution jobCriticality jobPriority jobNominal zeroSlackInstant deadlineInstant refuse before ascending outside check2 check3 check4 checkTasks check5 preceding check6 check7 check8 checkJobs checkLists check9 placeAt doneAt standingAt arriving arrived opening freshPlace fresh alive someJob moreCritical higherPriority pastZeroSlack suspended eligible candidate choice doneAfter over ends finishes goesOn standingAfter placeAfter advanced replay entriesBy entries final runEntries runRecord verdict unless checkGiven listFrom run spelled judged numberAt digits size decimal fieldAt numbersFrom firstLine parsedOf behindFirst line refusedLine runLine entry stretch stretchesFrom stretches word instant judgedLine jobLine jobLines runListing givenListing listing
-lower-case = refl
+abbrev shown : Row → List ℕ
+shown (prints t l) = l
 
--- no task: well formed, and refused by the lists: E 16 0 0 / refused 2 0
-pub no-task : listing (69 ∷ 32 ∷ 49 ∷ 54 ∷ 32 ∷ 48 ∷ 32 ∷ 48 ∷ 10 ∷ []) ≡ 114 ∷ 101 ∷ 102 ∷ 117 ∷ 115 ∷ 101 ∷ 100 ∷ 32 ∷ 50 ∷ 32 ∷ 48 ∷ 10 ∷ []
-unfolding some every least greatest count taskCount period deadline nominal overload criticality priority zeroSlack jobCount taskOf arrival execution jobCriticality jobPriority jobNominal zeroSlackInstant deadlineInstant refuse before ascending outside check2 check3 check4 checkTasks check5 preceding check6 check7 check8 checkJobs checkLists check9 placeAt doneAt standingAt arriving arrived opening freshPlace fresh alive someJob moreCritical higherPriority pastZeroSlack suspended eligible candidate choice doneAfter over ends finishes goesOn standingAfter placeAfter advanced replay entriesBy entries final runEntries runRecord verdict unless checkGiven listFrom run spelled judged numberAt digits size decimal fieldAt numbersFrom firstLine parsedOf behindFirst line refusedLine runLine entry stretch stretchesFrom stretches word instant judgedLine jobLine jobLines runListing givenListing listing
-no-task = refl
+-- Document 01's example; then six digits, a small letter, no final newline, a byte after the last line, 17 tasks: 14; and no task: 2.
+abbrev table : List Row
+table =
+    prints (joined input) (joined output)
+    ∷ prints (83 ∷ 32 ∷ 48 ∷ 48 ∷ 48 ∷ 48 ∷ 49 ∷ 54 ∷ 32 ∷ 50 ∷ 32 ∷ 51 ∷ 10 ∷ []) (114 ∷ 101 ∷ 102 ∷ 117 ∷ 115 ∷ 101 ∷ 100 ∷ 32 ∷ 49 ∷ 52 ∷ 32 ∷ 48 ∷ 10 ∷ [])
+    ∷ prints (115 ∷ 32 ∷ 49 ∷ 54 ∷ 32 ∷ 48 ∷ 32 ∷ 48 ∷ 10 ∷ []) (114 ∷ 101 ∷ 102 ∷ 117 ∷ 115 ∷ 101 ∷ 100 ∷ 32 ∷ 49 ∷ 52 ∷ 32 ∷ 48 ∷ 10 ∷ [])
+    ∷ prints (69 ∷ 32 ∷ 49 ∷ 54 ∷ 32 ∷ 48 ∷ 32 ∷ 48 ∷ []) (114 ∷ 101 ∷ 102 ∷ 117 ∷ 115 ∷ 101 ∷ 100 ∷ 32 ∷ 49 ∷ 52 ∷ 32 ∷ 48 ∷ 10 ∷ [])
+    ∷ prints (69 ∷ 32 ∷ 49 ∷ 54 ∷ 32 ∷ 48 ∷ 32 ∷ 48 ∷ 10 ∷ 10 ∷ []) (114 ∷ 101 ∷ 102 ∷ 117 ∷ 115 ∷ 101 ∷ 100 ∷ 32 ∷ 49 ∷ 52 ∷ 32 ∷ 48 ∷ 10 ∷ [])
+    ∷ prints (83 ∷ 32 ∷ 49 ∷ 32 ∷ 49 ∷ 55 ∷ 32 ∷ 48 ∷ 10 ∷ []) (114 ∷ 101 ∷ 102 ∷ 117 ∷ 115 ∷ 101 ∷ 100 ∷ 32 ∷ 49 ∷ 52 ∷ 32 ∷ 48 ∷ 10 ∷ [])
+    ∷ prints (69 ∷ 32 ∷ 49 ∷ 54 ∷ 32 ∷ 48 ∷ 32 ∷ 48 ∷ 10 ∷ []) (114 ∷ 101 ∷ 102 ∷ 117 ∷ 115 ∷ 101 ∷ 100 ∷ 32 ∷ 50 ∷ 32 ∷ 48 ∷ 10 ∷ [])
+    ∷ []
+
+pub examples : map (λ r. listing (text r)) table ≡ map shown table
+unfolding some every least greatest count taskCount period deadline nominal overload criticality priority zeroSlack jobCount taskOf arrival execution jobCriticality jobPriority jobNominal zeroSlackInstant deadlineInstant refuse before ascending outside check2 check3 check4 checkTasks check5 preceding check6 check7 check8 checkJobs checkLists check9 placeAt doneAt standingAt arriving arrived opening freshPlace fresh alive someJob moreCritical higherPriority pastZeroSlack suspended eligible candidate choice doneAfter over ends finishes goesOn standingAfter placeAfter advanced replay entriesBy entries final runEntries runRecord verdict unless checkGiven listFrom leading spelled asNumber numberAt digits size decimal fieldAt numbersFrom firstLine parsedOf behindFirst line refusedLine runLine entry stretch stretchesFrom stretches word instant verdictLine jobLine jobLines printed runListing givenListing listing
+examples = refl

@@ -5,3 +5,4 @@ pub mod Lines
 pub mod Runs
 pub mod Told
 pub mod Listings
+pub mod Unique

@@ -1,12 +1,12 @@
 -- Laws of bytes written one part behind another, and of the listing's lines.
-use Prim.Native.Nat.{ℕ, zero, suc, _+_, _*_, _-_, _≤_, _<_}
-use mathlib.Core.Path.{_≡_, refl, sym, ap, _∙_}
+use Prim.Native.Nat.{ℕ, suc, _+_, _*_, _-_, _≤_, _<_}
+use mathlib.Core.Path.{_≡_, refl, ap, _∙_}
 use mathlib.Core.List.{List, [], _∷_, _++_, append-assoc}
 use mathlib.Core.Bool.{Bool, true, false, cond}
 use native.Mathlib.Numerals.{add-one}
 use native.Mathlib.Omega.{arith}
 use lib.ListN.{length, getD, take, drop, set, length-append, drop-of-length-le}
-use lib.Seq.{sets, length-sets, drop-cons, take-suc}
+use lib.Seq.{length-sets, drop-cons, take-suc}
 use lib.Dec.{eqb, lit≤}
 use borrow.Author.Tests.{eq-eqb, ne-eqb}
 use Rattle.decimal.specs.declared.Written.{Written}
@@ -19,7 +19,7 @@ use Rattle.zsrm.specs.declared.record.Standing.{Standing}
 use Rattle.zsrm.specs.declared.record.Standing.the-variants.{NotArrived, Unfinished, Finished, Ended}
 use Rattle.zsrm.specs.declared.answers.Verdict.{Verdict}
 use Rattle.zsrm.specs.declared.answers.Verdict.the-variants as verdicts
-use Rattle.sheet.specs.Listing.{behindFirst, line, word, instant, judgedLine, letter, entry, refusedLine, runLine, stretch, stretchesFrom, stretches}
+use Rattle.sheet.specs.Listing.{behindFirst, line, word, instant, verdictLine, letter, entry, refusedLine, runLine, stretch, stretchesFrom, stretches}
 use Rattle.sheet.specs.Wrote.{Wrote}
 use Rattle.sheet.proofs.Numbers.{sets-sets}
 
@@ -210,14 +210,14 @@ wrote-verdict v s w x y z = wrote-more w (wrote-more x (wrote-more y z))
 pub wrote-job : (j : ℕ) (v : Verdict) (s : Standing) {l m n r : List ℕ} {at a b k : ℕ} → Wrote l at (106 ∷ 111 ∷ 98 ∷ 32 ∷ []) m a
     → Wrote m a (decimal j ++ (32 ∷ [])) n b
     → Wrote n b (line (word v) (instant s ∷ [])) r k
-    → Wrote l at (judgedLine j v s) r k
-unfolding judgedLine line behindFirst
+    → Wrote l at (verdictLine j v s) r k
+unfolding verdictLine line behindFirst
 wrote-job j v s w x y =
     let whole = wrote-more w (wrote-more x y) in
     rw append-assoc at whole
 
-pub job-length : (j : ℕ) (v : Verdict) (s : Standing) → length (judgedLine j v s) ≤ 32
-unfolding judgedLine line behindFirst
+pub job-length : (j : ℕ) (v : Verdict) (s : Standing) → length (verdictLine j v s) ≤ 32
+unfolding verdictLine line behindFirst
 job-length j v s = simp length-append (omega (arith, decimal-length j, word-length v, instant-length s))
 
 pub head-length : (mode : Mode) (horizon : ℕ) → length (runLine mode horizon) ≤ 17

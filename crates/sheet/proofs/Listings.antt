@@ -1,4 +1,4 @@
--- What is printed for a text, malformed or not, and that 542,737 bytes are room for any listing.
+-- What is printed for a text, malformed or not; that 542,737 bytes are room for any listing; and that a text's first 1,845 bytes decide.
 use Prim.Native.Nat.{ℕ, _*_, _<_, _≤_}
 use mathlib.Core.List.{List}
 use mathlib.Core.Path.{ap, sym, _∙_, _≡_}

@@ -16,8 +16,8 @@ use Rattle.decimal.specs.Decimal.{numberAt}
 use Rattle.decimal.proofs.Reading.{number-ends}
 use Rattle.sheet.specs.declared.input.Next.{Next}
 use Rattle.sheet.specs.declared.input.Next.the-variants.{At, Broken}
-use Rattle.sheet.specs.Grammar.{endedBy, fieldAt, endOf, Numbers, got, bad, behind, andThen, numbersFrom}
-use Rattle.sheet.specs.Reads.{NumbersAre}
+use Rattle.sheet.specs.Grammar.{endedBy, fieldAt, endOf, Numbers, got, bad, withFirst, andThen, numbersFrom}
+use Rattle.sheet.specs.Code.{NumbersAre}
 
 module _ (s : List ℕ) (at end v k : ℕ) (p : numberAt s at ≡ Value v k) where
   pub field-yes : getD s k 256 ≡ end → fieldAt s at end ≡ Value v (k + 1)
@@ -48,12 +48,12 @@ before-nil : (f : Numbers) → before [] f ≡ f
 before-nil (got vs k) = refl
 before-nil bad = refl
 
-before-behind : (xs : List ℕ) (v : ℕ) (f : Numbers) → before xs (behind v f) ≡ before (xs ++ (v ∷ [])) f
-before-behind xs v (got vs k) = rw append-assoc
-before-behind xs v bad = refl
+before-first : (xs : List ℕ) (v : ℕ) (f : Numbers) → before xs (withFirst v f) ≡ before (xs ++ (v ∷ [])) f
+before-first xs v (got vs k) = rw append-assoc
+before-first xs v bad = refl
 
 module _ (s : List ℕ) (per i n k : ℕ) where
-  numbers-step : {m v j : ℕ} → n ≡ suc m → fieldAt s k (endOf per i) ≡ Value v j → numbersFrom s per i n k ≡ behind v (numbersFrom s per (i + 1) m j)
+  numbers-step : {m v j : ℕ} → n ≡ suc m → fieldAt s k (endOf per i) ≡ Value v j → numbersFrom s per i n k ≡ withFirst v (numbersFrom s per (i + 1) m j)
   unfolding numbersFrom
   numbers-step p e = rw (p, e, add-one)
 
@@ -98,7 +98,7 @@ module _ {s : List ℕ} {per n at : ℕ} {l m : List ℕ} {i k : ℕ} (f : Fille
         done = d ++ (v ∷ []);
         count = simp length-append (omega arith);
         filled = rw (f .filled, ← z) (sets-sets d (v ∷ []) l 0);
-        rest = sym (before-behind d v (numbersFrom s per (i + 1) (n - (i + 1)) j)) ∙ ap (before d) (sym (numbers-step s per i (n - i) k p e)) ∙ f .rest;
+        rest = sym (before-first d v (numbersFrom s per (i + 1) (n - (i + 1)) j)) ∙ ap (before d) (sym (numbers-step s per i (n - i) k p e)) ∙ f .rest;
       }
 
   pub filled-bad : i < n → fieldAt s k (endOf per i) ≡ Malformed → (x : List ℕ) → NumbersAre (numbersFrom s per 0 n at) Broken l x
@@ -129,16 +129,16 @@ numbers-broken (got vs j) r l m a e = let z : _≡_ {A = ℕ} 0 1 = cc (a .0, e)
 numbers-broken bad r l m a e = refl
 
 -- numbers that were read: the first of them, and those behind it
-behind-got : (f : Numbers) (v k : ℕ) (vs : List ℕ) → behind v f ≡ got vs k → (ws : List ℕ) × (f ≡ got ws k) × (vs ≡ v ∷ ws)
-behind-got (got ws j) v k vs e =
+first-got : (f : Numbers) (v k : ℕ) (vs : List ℕ) → withFirst v f ≡ got vs k → (ws : List ℕ) × (f ≡ got ws k) × (vs ≡ v ∷ ws)
+first-got (got ws j) v k vs e =
     let q : j ≡ k = cc in
     (ws, ap (got ws) q, cc)
-behind-got bad v k vs e = let z : _≡_ {A = ℕ} 0 1 = cc in absurd (omega arith)
+first-got bad v k vs e = let z : _≡_ {A = ℕ} 0 1 = cc in absurd (omega arith)
 
 then-got : (x : Number) (f : ℕ → Numbers) (k : ℕ) (vs : List ℕ) → andThen x f ≡ got vs k
     → (v : ℕ) × (i : ℕ) × (ws : List ℕ) × (x ≡ Value v i) × (f i ≡ got ws k) × (vs ≡ v ∷ ws)
 then-got (Value v i) f k vs e =
-    let w = behind-got (f i) v k vs e in
+    let w = first-got (f i) v k vs e in
     (v, i, w .0, refl, w .1, w .2)
 then-got Malformed f k vs e = let z : _≡_ {A = ℕ} 0 1 = cc in absurd (omega arith)
 

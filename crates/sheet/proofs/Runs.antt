@@ -1,6 +1,6 @@
 -- Laws of what is printed of a run: the lines of its jobs, and the whole.
 use Prim.Native.Nat.{_*_, _+_, _<_, suc, zero, ℕ, _≤_}
-use mathlib.Core.List.{List, _++_}
+use mathlib.Core.List.{List}
 use mathlib.Core.Logic.{_⊎_}
 use mathlib.Core.Path.{ap, refl, sym, _∙_, _≡_}
 use native.Mathlib.Numerals.{add-one}
@@ -25,18 +25,19 @@ use Rattle.zsrm.proofs.Laws.Answers.{accepted, accepted-lists, run-given, run-o
 use Rattle.zsrm.proofs.Laws.Promises.{ran-consistent}
 use Rattle.zsrm.proofs.Laws.Refusals.{before-first, before-second, refuse-fine}
 use Rattle.zsrm.proofs.Laws.Run.{length-run}
-use Rattle.sheet.specs.Listing.{behindFirst, givenListing, jobLine, jobLines, judgedLine, line, refusedLine, runLine, runListing, stretches}
-use Rattle.sheet.specs.Wrote.{Judged, Wrote}
+use Rattle.sheet.specs.Listing.{behindFirst, givenListing, jobLine, jobLines, verdictLine, line, printed, refusedLine, runLine, runListing, stretches}
+use Rattle.sheet.specs.Wrote.{Wrote}
+use Rattle.sheet.specs.Code.{Sound}
 use Rattle.sheet.proofs.Lines.{decimal-length, head-length, job-length, stretches-length, wrote-length, wrote-more}
 
-module _ {mode : Mode} {tasks jobs : List ℕ} {r : Record} (w : Judged mode tasks jobs r) where
+module _ {mode : Mode} {tasks jobs : List ℕ} {r : Record} (w : Sound mode tasks jobs r) where
   pub few : jobCount jobs ≤ 64
   unfolding checkLists
   few = few-jobs tasks jobs (before-second (checkTasks tasks) _ (w .lists))
 
   -- a job's line, with the verdict that the library answers
   pub job-line : (j : ℕ) {v : Verdict} {s : Standing} → j < jobCount jobs → v ≡ verdictAnswer (given mode tasks jobs) r j → s ≡ standingAt r j
-      → judgedLine j v s ≡ jobLine (given mode tasks jobs) r j
+      → verdictLine j v s ≡ jobLine (given mode tasks jobs) r j
   unfolding jobLine checkGiven
   job-line j {v} {s} l p q =
       let e : v ≡ verdict (given mode tasks jobs) r j = p ∙ verdict-answered (given mode tasks jobs) (w .lists) r (w .sound) j l in
@@ -73,7 +74,7 @@ module _ (g : Given) (horizon : ℕ) (lent : List ℕ) {r : Ran} (is : r ≡ run
     recorded : r .«record» ≡ runRecord g horizon
     recorded = ap (λ (x : Ran). x .«record») is ∙ run-given g horizon lent accepts .0
 
-    pub ran-judged : Judged (g .mode) (g .tasks) (g .jobs) (r .«record»)
+    pub ran-judged : Sound (g .mode) (g .tasks) (g .jobs) (r .«record»)
     ran-judged =
         record {
           lists = accepted-lists g horizon lent (accepted g horizon lent accepts);
@@ -88,7 +89,7 @@ module _ (g : Given) (horizon : ℕ) (lent : List ℕ) {r : Ran} (is : r ≡ run
       ran-short = omega (arith, ap length wrote-entries, length-run g horizon, accepted g horizon lent accepts .bounded)
 
       pub ran-listing : (length lent ≡ horizon) ⊎ (16384 < horizon)
-          → runLine (g .mode) horizon ++ (stretches es ++ jobLines g (r .«record») (jobCount (g .jobs))) ≡ givenListing g horizon
+          → printed g horizon es (r .«record») ≡ givenListing g horizon
       unfolding givenListing runListing
       ran-listing fits =
           let e = unless-done refusedLine (runListing g horizon) (before (checkGiven g) (check9 horizon)) (sym (schedule-checked g horizon lent fits) ∙ accepts) in
@@ -105,7 +106,7 @@ unfolding refusedLine line behindFirst
 refused-length number place = simp length-append (omega (arith, decimal-length number, decimal-length place))
 
 run-length : (g : Given) (horizon : ℕ) → horizon ≤ 16384 → jobCount (g .jobs) ≤ 64 → length (runListing g horizon) ≤ 542737
-unfolding runListing
+unfolding runListing printed
 run-length g horizon h j =
     simp length-append
     (omega (arith, head-length (g .mode) horizon, stretches-length (runEntries g horizon), length-run g horizon, jobs-length g (runRecord g horizon) (jobCount (g .jobs))))

@@ -1,8 +1,8 @@
 -- The first line and the whole text, by cases, as the code goes.
-use Prim.Native.Nat.{ℕ, _*_, _/_, _≤_, _<_}
-use mathlib.Core.Path.{_≡_, refl, sym, ap, _∙_}
+use Prim.Native.Nat.{ℕ, _*_, _/_, _≤_}
+use mathlib.Core.Path.{_≡_, ap}
 use mathlib.Core.List.{List}
-use mathlib.Core.Bool.{Bool, true, false, _&&_, not}
+use mathlib.Core.Bool.{Bool, true, false, _&&_}
 use native.Mathlib.Omega.{arith}
 use lib.ListN.{length, getD}
 use lib.Seq.{sets}
@@ -12,8 +12,8 @@ use Rattle.bits.proofs.Bools.{and-left, and-right}
 use Rattle.decimal.specs.declared.Number.the-variants.{Value, Malformed}
 use Rattle.zsrm.specs.declared.tables.Mode.{Mode}
 use Rattle.sheet.specs.declared.input.Head.the-variants.{Heading, NoHead}
-use Rattle.sheet.specs.declared.input.Sheet.{Sheet}
-use Rattle.sheet.specs.Grammar.{isMode, modeOf, fieldAt, firstLine, got, bad, numbersFrom, parsed, malformed, parsedOf, noTasks, noJobs, nothing, sheetOf}
+use Rattle.sheet.specs.Grammar.{isMode, modeOf, fieldAt, firstLine, got, bad, numbersFrom, parsed, malformed, parsedOf}
+use Rattle.sheet.specs.Code.{noJobs, noTasks, nothing, sheetOf}
 use Rattle.sheet.proofs.Numbers.{got-length}
 
 pub room-tasks : {l : List ℕ} → l ≡ noTasks → length l ≡ 112

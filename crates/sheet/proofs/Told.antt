@@ -1,8 +1,8 @@
 -- What a sheet says of the text that it was read from: its lists stand at the front of their rooms, and nothing is cut off.
 use Prim.Native.Nat.{_*_, _+_, _/_, _<_, ℕ, _≤_}
 use mathlib.Core.Bool.{Bool, _&&_, cond, false, true}
-use mathlib.Core.List.{_++_, List}
-use mathlib.Core.Path.{ap, refl, sym, _∙_, _≡_}
+use mathlib.Core.List.{List}
+use mathlib.Core.Path.{refl, sym, _≡_}
 use native.Mathlib.Omega.{arith}
 use lib.Dec.{eqb, leb}
 use lib.ListN.{drop, getD, length, take}
@@ -13,7 +13,8 @@ use Rattle.decimal.specs.declared.Number.the-variants.{Malformed, Value}
 use Rattle.sheet.specs.declared.input.Head.{Head}
 use Rattle.sheet.specs.declared.input.Head.the-variants.{Heading, NoHead}
 use Rattle.sheet.specs.declared.input.Sheet.{Sheet}
-use Rattle.sheet.specs.Grammar.{Numbers, Parsed, asSheet, bad, fieldAt, firstLine, got, isMode, malformed, modeOf, noJobs, noTasks, nothing, numbersFrom, parsed, parsedOf, sheetOf, withHead, withNumber, withNumbers}
+use Rattle.sheet.specs.Grammar.{Numbers, Parsed, bad, fieldAt, firstLine, got, isMode, malformed, modeOf, numbersFrom, parsed, parsedOf, withHead, withNumber, withNumbers}
+use Rattle.sheet.specs.Code.{asSheet, noJobs, noTasks, nothing, sheetOf}
 use Rattle.sheet.proofs.Numbers.{field-ends, got-ends, got-length}
 use Rattle.sheet.proofs.Sheets.{counts-few, room-jobs, room-tasks}
 

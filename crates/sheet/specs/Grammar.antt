@@ -1,11 +1,10 @@
 -- Document 01, "The listing": the input text. A first line with mode letter (S or E), horizon, task count and job count; a line of seven
 -- numbers for each task; a line of three for each job. Decimal, one space apart, each line ended by a newline, 1 to 5 digits; anything
 -- else is malformed. The bytes: space is 32, newline 10, S 83, E 69; 256 stands for the end of the text.
-use Prim.Native.Nat.{ℕ, zero, suc, _+_, _*_, _/_, _%_}
-use mathlib.Core.Bool.{Bool, true, false, _&&_, _||_, cond}
+use Prim.Native.Nat.{ℕ, zero, suc, _+_, _*_, _%_}
+use mathlib.Core.Bool.{Bool, _&&_, _||_, cond}
 use mathlib.Core.List.{List, [], _∷_}
-use lib.ListN.{length, getD, replicate}
-use lib.Seq.{sets}
+use lib.ListN.{length, getD}
 use lib.Dec.{leb, eqb}
 use Rattle.decimal.specs.declared.Number.{Number}
 use Rattle.decimal.specs.declared.Number.the-variants.{Value, Malformed}
@@ -14,7 +13,6 @@ use Rattle.zsrm.specs.declared.tables.Mode.{Mode}
 use Rattle.zsrm.specs.declared.tables.Mode.the-variants.{S, SE}
 use Rattle.sheet.specs.declared.input.Head.{Head}
 use Rattle.sheet.specs.declared.input.Head.the-variants.{Heading, NoHead}
-use Rattle.sheet.specs.declared.input.Sheet.{Sheet}
 
 -- A number counts where the byte behind it is the one wanted; the position is then the one after that byte.
 abbrev pub endedBy : List ℕ → ℕ → Number → Number
@@ -34,12 +32,12 @@ pub data Numbers : Type 0 where
   got : List ℕ → ℕ → Numbers
   bad : Numbers
 
-abbrev pub behind : ℕ → Numbers → Numbers
-behind v (got vs k) = got (v ∷ vs) k
-behind v bad = bad
+abbrev pub withFirst : ℕ → Numbers → Numbers
+withFirst v (got vs k) = got (v ∷ vs) k
+withFirst v bad = bad
 
 abbrev pub andThen : Number → (ℕ → Numbers) → Numbers
-andThen (Value v k) rest = behind v (rest k)
+andThen (Value v k) rest = withFirst v (rest k)
 andThen Malformed rest = bad
 
 -- n numbers in lines of `per`, the first of them being number i.
@@ -88,32 +86,3 @@ parsedOf text =
     (λ letter horizon tasks jobs a. withNumbers (numbersFrom text 7 0 (tasks * 7) a)
     (λ table b. withNumbers (numbersFrom text 3 0 (jobs * 3) b)
     (λ list e. cond (eqb e (length text)) (parsed (modeOf letter) horizon table list) malformed)))
-
--- room for 16 tasks and for 64 jobs, all zeros
-unfoldable pub noTasks : List ℕ
-noTasks = replicate 112 0
-
-unfoldable pub noJobs : List ℕ
-noJobs = replicate 192 0
-
--- the sheet of a malformed text
-unfoldable pub nothing : Sheet
-nothing =
-    record { formed = false; mode = S; horizon = 0; tasks = 0; jobs = 0; table = noTasks; list = noJobs }
-
--- What was read as a sheet by value: the lists stand at the front of their rooms.
-abbrev pub asSheet : Parsed → Sheet
-asSheet (parsed mode horizon table list) =
-    record {
-      formed = true;
-      mode = mode;
-      horizon = horizon;
-      tasks = length table / 7;
-      jobs = length list / 3;
-      table = sets noTasks 0 table;
-      list = sets noJobs 0 list;
-    }
-asSheet malformed = nothing
-
-unfoldable pub sheetOf : List ℕ → Sheet
-sheetOf text = asSheet (parsedOf text)

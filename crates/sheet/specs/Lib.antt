@@ -1,4 +1,4 @@
 pub mod Grammar
-pub mod Reads
 pub mod Listing
 pub mod Wrote
+pub mod Code

@@ -11,7 +11,6 @@ use Rattle.zsrm.specs.declared.record.Standing.{Standing}
 use Rattle.zsrm.specs.declared.record.Standing.the-variants.{NotArrived, Unfinished, Finished, Ended}
 use Rattle.zsrm.specs.declared.answers.Verdict.{Verdict}
 use Rattle.zsrm.specs.declared.answers.Verdict.the-variants as verdicts
-use Rattle.zsrm.specs.declared.answers.Outcome.{Outcome}
 use Rattle.zsrm.specs.Tables.{Given, idle, jobCount}
 use Rattle.zsrm.specs.Refusals.{before, check9}
 use Rattle.zsrm.specs.Record.{standingAt}
@@ -20,7 +19,7 @@ use Rattle.zsrm.specs.Verdict.{verdict}
 use Rattle.zsrm.specs.Answers.{given, unless, checkGiven}
 use Rattle.sheet.specs.Grammar.{Parsed, parsed, malformed, parsedOf}
 
--- words one space apart
+-- the words behind a line's first, a space before each, and the newline
 unfoldable pub behindFirst : List (List ℕ) → List ℕ
 behindFirst [] = 10 ∷ []
 behindFirst (w ∷ ws) = 32 ∷ (w ++ behindFirst ws)
@@ -81,23 +80,26 @@ instant (Finished f) = decimal f
 instant (Ended e) = decimal e
 
 -- The word `job`, number, verdict, and the instant.
-unfoldable pub judgedLine : ℕ → Verdict → Standing → List ℕ
-judgedLine j verdict standing = line (106 ∷ 111 ∷ 98 ∷ []) (decimal j ∷ word verdict ∷ instant standing ∷ [])
+unfoldable pub verdictLine : ℕ → Verdict → Standing → List ℕ
+verdictLine j verdict standing = line (106 ∷ 111 ∷ 98 ∷ []) (decimal j ∷ word verdict ∷ instant standing ∷ [])
 
 module _ (g : Given) where
   -- the line of job j from a record
   unfoldable pub jobLine : Record → ℕ → List ℕ
-  jobLine r j = judgedLine j (verdict g r j) (standingAt r j)
+  jobLine r j = verdictLine j (verdict g r j) (standingAt r j)
 
   -- the lines of the first n jobs
   unfoldable pub jobLines : Record → ℕ → List ℕ
   jobLines r zero = []
   jobLines r (suc n) = jobLines r n ++ jobLine r n
 
-  -- what is printed of a run: line 1, the stretches, the jobs
+  -- what is printed of entries and the record that they end with: line 1, the stretches, the jobs
+  unfoldable pub printed : ℕ → List ℕ → Record → List ℕ
+  printed horizon es r = runLine (g .mode) horizon ++ (stretches es ++ jobLines r (jobCount (g .jobs)))
+
+  -- what is printed of our run
   unfoldable pub runListing : ℕ → List ℕ
-  runListing horizon =
-      runLine (g .mode) horizon ++ (stretches (runEntries g horizon) ++ jobLines (runRecord g horizon) (jobCount (g .jobs)))
+  runListing horizon = printed horizon (runEntries g horizon) (runRecord g horizon)
 
   -- the refusals of the lists and of the horizon, lowest first, or the run
   unfoldable pub givenListing : ℕ → List ℕ

@@ -2,8 +2,8 @@
 ghost use mathlib.Core.Path.{_≡_};
 ghost use Prim.Native.Nat.{_≤_, _<_};
 ghost use lib.ListN.{length};
-ghost use Rattle.sheet.specs.Grammar.{endOf, fieldAt, firstLine, isMode, modeOf, noJobs, noTasks, nothing, numbersFrom, sheetOf};
-ghost use Rattle.sheet.specs.Reads.{Few, NumbersAre};
+ghost use Rattle.sheet.specs.Grammar.{endOf, fieldAt, firstLine, isMode, modeOf, numbersFrom};
+ghost use Rattle.sheet.specs.Code.{Few, NumbersAre, noJobs, noTasks, nothing, sheetOf};
 use decimal::Number;
 use zsrm::Mode;
 
@@ -73,18 +73,21 @@ fn numbers(text: &[u8], at: usize, per: usize, n: usize, list: &mut [u32]) -> Ne
     Next::At(k)
 }
 
+// Whether the byte is a mode letter, S or E.
 fn is_mode(b: u32) -> bool
     ensures { λ r. ⌜ r ≡ isMode b ⌝ }
 {
     (b == 83) | (b == 69)
 }
 
+// The mode of its letter.
 fn mode_of(b: u32) -> Mode
     ensures { λ r. ⌜ r ≡ modeOf b ⌝ }
 {
     if b == 83 { Mode::S } else { Mode::SE }
 }
 
+// The first line, where it is one: a task count over 16 or a job count over 64 is none.
 fn first_line(text: &[u8]) -> Head
     ensures is { λ r. ⌜ r ≡ firstLine (now (text .entry)) ⌝ }
     ensures few { λ r. ⌜ Few r ⌝ }
@@ -110,12 +113,14 @@ fn first_line(text: &[u8]) -> Head
     Head::Heading(letter, horizon, tasks, jobs, e)
 }
 
+// Room for the numbers of 16 tasks.
 fn no_tasks() -> [u32; 112]
     ensures { λ r. ⌜ r ≡ noTasks ⌝ }
 {
     [0u32; 112]
 }
 
+// Room for the numbers of 64 jobs.
 fn no_jobs() -> [u32; 192]
     ensures { λ r. ⌜ r ≡ noJobs ⌝ }
 {

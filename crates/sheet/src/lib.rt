@@ -1,13 +1,12 @@
 // The program's text: the input read, the listing written. Document 01, "The listing", stands as definitions in specs/.
-ghost use mathlib.Core.List.{_++_};
 ghost use mathlib.Core.Logic.{_⊎_};
 ghost use mathlib.Core.Path.{_≡_};
 ghost use Prim.Native.Nat.{_≤_, _<_};
 ghost use lib.ListN.{length};
-ghost use Rattle.zsrm.specs.Tables.{jobCount};
 ghost use Rattle.zsrm.specs.Answers.{given};
-ghost use Rattle.sheet.specs.Listing.{givenListing, jobLines, listing, runLine, stretches};
-ghost use Rattle.sheet.specs.Wrote.{Judged, Wrote};
+ghost use Rattle.sheet.specs.Listing.{givenListing, listing, printed};
+ghost use Rattle.sheet.specs.Wrote.{Wrote};
+ghost use Rattle.sheet.specs.Code.{Sound};
 use input::parse;
 use output::put_head;
 use output::put_jobs;
@@ -30,9 +29,9 @@ fn put_run(
     schedule: &[u16],
     rec: Record,
 ) -> usize
-    requires { ⌜ Judged mode (now tasks) (now jobs) rec ⌝ }
+    requires { ⌜ Sound mode (now tasks) (now jobs) rec ⌝ }
     requires { ⌜ (length (now schedule) ≤ 16384) × (600000 ≤ length (now out)) ⌝ }
-    ensures { λ r. ⌜ Wrote (now (out .entry)) 0 (runLine mode horizon ++ (stretches (now (schedule .entry)) ++ jobLines (given mode (now (tasks .entry)) (now (jobs .entry))) rec (jobCount (now (jobs .entry))))) (now (out .exit)) r ⌝ }
+    ensures { λ r. ⌜ Wrote (now (out .entry)) 0 (printed (given mode (now (tasks .entry)) (now (jobs .entry))) horizon (now (schedule .entry)) rec) (now (out .exit)) r ⌝ }
 {
     let a = put_head(out, 0, mode, horizon);
     let b = put_stretches(out, a, schedule);

@@ -4,8 +4,9 @@ ghost use mathlib.Core.List.{[], _∷_, _++_};
 ghost use Prim.Native.Nat.{_+_, _*_, _≤_, _<_};
 ghost use lib.ListN.{length};
 ghost use Rattle.decimal.specs.Decimal.{decimal};
-ghost use Rattle.sheet.specs.Listing.{entry, instant, jobLine, jobLines, judgedLine, letter, line, refusedLine, runLine, stretch, stretches, word};
-ghost use Rattle.sheet.specs.Wrote.{Judged, Wrote};
+ghost use Rattle.sheet.specs.Listing.{entry, instant, jobLine, jobLines, verdictLine, letter, line, refusedLine, runLine, stretch, stretches, word};
+ghost use Rattle.sheet.specs.Wrote.{Wrote};
+ghost use Rattle.sheet.specs.Code.{Sound};
 ghost use Rattle.zsrm.specs.Tables.{jobCount};
 ghost use Rattle.zsrm.specs.Answers.{given};
 use decimal::Written;
@@ -14,7 +15,8 @@ use zsrm::Record;
 use zsrm::Standing;
 use zsrm::Verdict;
 
-pub(crate) fn put_byte(out: &mut [u8], at: usize, b: u8) -> usize
+// One byte, and the position after it.
+fn put_byte(out: &mut [u8], at: usize, b: u8) -> usize
     requires { ⌜ at < length (now out) ⌝ }
     ensures { λ r. ⌜ Wrote (now (out .entry)) at (b ∷ []) (now (out .exit)) r ⌝ }
 {
@@ -23,7 +25,7 @@ pub(crate) fn put_byte(out: &mut [u8], at: usize, b: u8) -> usize
 }
 
 // A word, byte by byte.
-pub(crate) fn put_text(out: &mut [u8], at: usize, word: &[u8]) -> usize
+fn put_text(out: &mut [u8], at: usize, word: &[u8]) -> usize
     requires { ⌜ at + length (now word) ≤ length (now out) ⌝ }
     ensures { λ r. ⌜ Wrote (now (out .entry)) at (now (word .entry)) (now (out .exit)) r ⌝ }
 {
@@ -36,7 +38,7 @@ pub(crate) fn put_text(out: &mut [u8], at: usize, word: &[u8]) -> usize
 }
 
 // A number; there is room for any.
-pub(crate) fn put_number(out: &mut [u8], at: usize, x: u32) -> usize
+fn put_number(out: &mut [u8], at: usize, x: u32) -> usize
     requires { ⌜ at + 10 ≤ length (now out) ⌝ }
     ensures { λ r. ⌜ Wrote (now (out .entry)) at (decimal x) (now (out .exit)) r ⌝ }
 {
@@ -47,7 +49,7 @@ pub(crate) fn put_number(out: &mut [u8], at: usize, x: u32) -> usize
 }
 
 // A number and one byte behind it.
-pub(crate) fn put_field(out: &mut [u8], at: usize, x: u32, end: u8) -> usize
+fn put_field(out: &mut [u8], at: usize, x: u32, end: u8) -> usize
     requires { ⌜ at + 11 ≤ length (now out) ⌝ }
     ensures { λ r. ⌜ Wrote (now (out .entry)) at (decimal x ++ (end ∷ [])) (now (out .exit)) r ⌝ }
 {
@@ -113,6 +115,7 @@ pub(crate) fn put_refused(out: &mut [u8], at: usize, number: u32, place: u32) ->
     put_field(out, b, place, b'\n')
 }
 
+// The mode's letter.
 fn letter_of(mode: Mode) -> u8
     ensures { λ r. ⌜ r ∷ [] ≡ letter mode ⌝ }
 {
@@ -133,6 +136,7 @@ pub(crate) fn put_head(out: &mut [u8], at: usize, mode: Mode, horizon: u32) -> u
     put_field(out, k, horizon, b'\n')
 }
 
+// The word of a verdict. The library refuses none on a job of accepted lists, so a refusal has no word.
 fn put_word(out: &mut [u8], at: usize, verdict: Verdict) -> usize
     requires { ⌜ at + 5 ≤ length (now out) ⌝ }
     ensures { λ r. ⌜ Wrote (now (out .entry)) at (word verdict) (now (out .exit)) r ⌝ }
@@ -173,7 +177,7 @@ fn put_verdict(out: &mut [u8], at: usize, verdict: Verdict, standing: Standing) 
 // The line of job j.
 fn put_job(out: &mut [u8], at: usize, j: u32, verdict: Verdict, standing: Standing) -> usize
     requires { ⌜ at + 32 ≤ length (now out) ⌝ }
-    ensures { λ r. ⌜ Wrote (now (out .entry)) at (judgedLine j verdict standing) (now (out .exit)) r ⌝ }
+    ensures { λ r. ⌜ Wrote (now (out .entry)) at (verdictLine j verdict standing) (now (out .exit)) r ⌝ }
 {
     let a = put_text(out, at, b"job ");
     let b = put_field(out, a, j, b' ');
@@ -190,7 +194,7 @@ fn put_job_at(
     jobs: &[u32],
     j: u32,
 ) -> usize
-    requires { ⌜ Judged mode (now tasks) (now jobs) rec ⌝ }
+    requires { ⌜ Sound mode (now tasks) (now jobs) rec ⌝ }
     requires { ⌜ (j < jobCount (now jobs)) × (at + 32 ≤ length (now out)) ⌝ }
     ensures { λ r. ⌜ Wrote (now (out .entry)) at (jobLine (given mode (now (tasks .entry)) (now (jobs .entry))) rec j) (now (out .exit)) r ⌝ }
 {
@@ -210,7 +214,7 @@ pub(crate) fn put_jobs(
     tasks: &[u32],
     jobs: &[u32],
 ) -> usize
-    requires { ⌜ Judged mode (now tasks) (now jobs) rec ⌝ }
+    requires { ⌜ Sound mode (now tasks) (now jobs) rec ⌝ }
     requires { ⌜ at + 32 * jobCount (now jobs) ≤ length (now out) ⌝ }
     ensures { λ r. ⌜ Wrote (now (out .entry)) at (jobLines (given mode (now (tasks .entry)) (now (jobs .entry))) rec (jobCount (now (jobs .entry)))) (now (out .exit)) r ⌝ }
 {

@@ -1,5 +1,4 @@
 -- The digits from place i on stand in the buffer, and `rest` has those before them.
-use Prim.Native.Nat.{_%_, _≤_}
 use native.Mathlib.Omega.{arith}
 use borrow.Author.Needs.{needs}
 use Rattle.decimal.proofs.Writing.{Put, put-none, put-length, put-more, put-end}

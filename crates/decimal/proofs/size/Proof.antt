@@ -1,8 +1,6 @@
 -- One digit has been counted for each time that x was divided by 10, and one for the number that is left.
-use Prim.Native.Nat.{_+_, _-_, _^_, _<_}
+use Prim.Native.Nat.{_-_}
 use native.Mathlib.Omega.{arith}
-use lib.Dec.{lit<}
-use borrow.Author.Needs.{needs}
 use Rattle.decimal.proofs.Writing.{Sized, sized-none, sized-room, sized-more, sized-end}
 use Rattle.decimal.proofs.size.Statement.{statement}
 use Rattle.decimal.proofs.size.Tie as tie

@@ -4,7 +4,6 @@ use native.Mathlib.Omega.{arith}
 use lib.Seq.{length-take-le}
 use borrow.Author.Needs.{needs}
 use borrow.Author.Tests.{not-false, not-true}
-use Rattle.sheet.specs.Wrote.{Wrote}
 use Rattle.sheet.proofs.Listings.{listing-fits, listing-formed, listing-malformed}
 use Rattle.sheet.proofs.Told.{Told, told, unformed}
 use Rattle.sheet.proofs.listing.Statement.{statement}

@@ -1,5 +1,6 @@
 -- Line 1, the stretches and the jobs, one behind the other; there is room for all.
 use borrow.Author.Needs.{needs}
+use Rattle.sheet.specs.Listing.{printed}
 use Rattle.sheet.proofs.Lines.{wrote-more}
 use Rattle.sheet.proofs.Runs.{few, room-jobs, room-stretches}
 use Rattle.sheet.proofs.put_run.Statement.{statement}
@@ -16,6 +17,7 @@ put-jobs-requires c κs =
     (start .pre .0, room-jobs _ _ (start .args .schedule .now) (start .pre .1 .0) (start .pre .1 .1) (c .before .before .before .before .before .before .before .put-head .ensures) (c .before .before .before .put-stretches .ensures) _ (few (start .pre .0)))
 
 pub put-run-spec : {M : Type 1} → statement M
+unfolding printed
 put-run-spec =
     tie.close
     (tie.spec

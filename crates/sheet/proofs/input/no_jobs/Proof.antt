@@ -1,6 +1,6 @@
 -- The room written out is the definition computed.
 use mathlib.Core.Path.{refl}
-use Rattle.sheet.specs.Grammar.{noJobs}
+use Rattle.sheet.specs.Code.{noJobs}
 use Rattle.sheet.proofs.input.no_jobs.Statement.{statement}
 use Rattle.sheet.proofs.input.no_jobs.Tie as tie
 

@@ -1,6 +1,6 @@
 -- The room written out is the definition computed.
 use mathlib.Core.Path.{refl}
-use Rattle.sheet.specs.Grammar.{noTasks}
+use Rattle.sheet.specs.Code.{noTasks}
 use Rattle.sheet.proofs.input.no_tasks.Statement.{statement}
 use Rattle.sheet.proofs.input.no_tasks.Tie as tie
 

@@ -1,6 +1,6 @@
 -- The two rooms are empty.
 use borrow.Author.Needs.{needs}
-use Rattle.sheet.specs.Grammar.{nothing}
+use Rattle.sheet.specs.Code.{nothing}
 use Rattle.sheet.proofs.input.nothing.Statement.{statement}
 use Rattle.sheet.proofs.input.nothing.Tie as tie
 

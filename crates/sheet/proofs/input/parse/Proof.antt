@@ -7,7 +7,7 @@ use lib.Seq.{sets}
 use borrow.Author.Needs.{needs}
 use Rattle.sheet.specs.declared.input.Head.the-variants.{Heading}
 use Rattle.sheet.specs.Grammar.{firstLine, numbersFrom, got}
-use Rattle.sheet.specs.Reads.{Few}
+use Rattle.sheet.specs.Code.{Few}
 use Rattle.sheet.proofs.Numbers.{numbers-at, numbers-broken}
 use Rattle.sheet.proofs.Sheets.{room-tasks, room-jobs, sheet-no-head, sheet-no-tasks, sheet-no-jobs, sheet-more, sheet-all}
 use Rattle.sheet.proofs.input.parse.Statement.{statement}

@@ -3,7 +3,6 @@ use Prim.Native.Nat.{_-_, _/_, _≤_}
 use mathlib.Core.Path.{_≡_}
 use native.Mathlib.Omega.{arith}
 use lib.ListN.{length}
-use borrow.Author.Needs.{needs}
 use Rattle.zsrm.specs.Answers.{given}
 use Rattle.zsrm.specs.Tables.{jobCount}
 use Rattle.sheet.specs.Listing.{jobLines}
