@@ -1,4 +1,5 @@
-// The library's answers as numbers, so that they can be compared and printed. A refusal is 1,000,000 more than its packed number.
+// The library's answers as numbers, so that they can be compared and printed. A refusal is 1,000,000 more than its number and 256 times
+// its place.
 use zsrm::Claim;
 use zsrm::Mode;
 use zsrm::Outcome;

@@ -1,4 +1,5 @@
-// Claims, witnesses and the parts that are shown, on one schedule; and verdicts on one record.
+// Claims, witnesses and the parts that are shown, on one schedule, and verdicts on one record. The simulator takes the claim by
+// stretches; what it holds at the claim's end decides the rest.
 use crate::answers::ACCEPTED;
 use crate::answers::ENDED;
 use crate::answers::LATE;
@@ -70,7 +71,7 @@ pub(crate) fn try_verdict(
     };
     t.late_refusal(want)
         .verdict(want)
-        .note(inp, b"verdict", want, got)
+        .note(inp.at(j), b"verdict", want, got)
 }
 
 // A number beyond every list, which in 16 bits would be 0.
@@ -213,10 +214,10 @@ fn try_witness(
     let got = of_witness(zsrm::witness(mode_of(inp.se), tasks, jobs, inp.horizon, line, j));
     let first = t.late_refusal(want)
         .witness(want)
-        .note_on(inp, line, b"witness", want, got);
+        .note_on(inp.at(j), line, b"witness", want, got);
     try_part(
         first,
-        inp,
+        inp.at(j),
         tasks,
         jobs,
         line,

@@ -17,6 +17,9 @@ use crate::list::entry_at;
 use crate::list::front_of_bytes;
 use crate::list::no_line;
 use crate::print::Input;
+use crate::print::count;
+use crate::print::text;
+use crate::tally::DIFFERENCES;
 use crate::tally::Tally;
 
 // A list as bytes, least first; past its end there are more, for byte counts that are too large.
@@ -124,6 +127,17 @@ fn entry_bytes(h: Handed, inp: Input) -> usize {
     2 * (inp.room % 65536) + h.entries % 2
 }
 
+// How the input was handed over, where that made a difference.
+fn show(h: Handed, before: Tally, after: Tally) {
+    if before.get(DIFFERENCES) < after.get(DIFFERENCES) {
+        count(b"  from C in mode ", h.mode);
+        count(b", more bytes: tasks ", (h.tasks % 4) as u32);
+        count(b" jobs ", (h.jobs % 4) as u32);
+        count(b" entries ", (h.entries % 2) as u32);
+        text(b"\n");
+    }
+}
+
 // The schedule that a call leaves.
 fn left_by(key: u32, ours: Line) -> Line {
     if key == FINE { ours } else { no_line() }
@@ -156,7 +170,9 @@ pub(crate) fn try_c_run(
         entry_bytes(h, inp),
     );
     let first = t.note(inp, b"zsrm_run", packed(key) as u64, got as u64);
-    first.note(inp, b"zsrm_run, bytes", 0, unlike_schedule(&c, want))
+    let second = first.note(inp, b"zsrm_run, bytes", 0, unlike_schedule(&c, want));
+    show(h, t, second);
+    second
 }
 
 // What a claim from C comes to, as one number.
@@ -195,8 +211,10 @@ pub(crate) fn try_c_claim(
         front_of_bytes(&c, entry_bytes(h, inp)),
     );
     let want = claim_number(h, inp, tasks, jobs, line);
-    t.c_claim(want)
-        .note_on(inp, line, b"zsrm_claim", want, got as u64)
+    let noted = t.c_claim(want)
+        .note_on(inp, line, b"zsrm_claim", want, got as u64);
+    show(h, t, noted);
+    noted
 }
 
 // The refusal that the calls from C must give.

@@ -1,4 +1,4 @@
-// The groups of trials and their lines.
+// The groups of trials: so many inputs of a kind in a mode, each numbered, the number being the seed of all that is drawn for it.
 use crate::altered::altered;
 use crate::claims::try_verdicts;
 use crate::cside::Handed;
@@ -17,6 +17,7 @@ use crate::print::Input;
 use crate::print::print_record;
 use crate::print::text;
 use crate::report::claims;
+use crate::report::claims_from_c;
 use crate::report::head;
 use crate::report::records;
 use crate::report::refusals;
@@ -192,6 +193,12 @@ fn damaged_group(name: &[u8], kind: u32, se: bool, n: u32) -> Tally {
     t
 }
 
+fn c_group(name: &[u8], se: bool, n: u32) -> Tally {
+    let t = damaged_group(name, FROM_C, se, n);
+    claims_from_c(t);
+    t
+}
+
 fn record_group(name: &[u8], se: bool, n: u32) -> Tally {
     let t = trials(ALTERED, se, n);
     head(name, t);
@@ -211,8 +218,8 @@ fn damaged_groups() -> Tally {
     let b = a.with(damaged_group(b"damaged SE", DAMAGED, true, 700));
     let c = b.with(damaged_group(b"twice damaged S", TWICE_DAMAGED, false, 500));
     let d = c.with(damaged_group(b"twice damaged SE", TWICE_DAMAGED, true, 500));
-    let e = d.with(damaged_group(b"from C, S", FROM_C, false, 600));
-    e.with(damaged_group(b"from C, SE", FROM_C, true, 600))
+    let e = d.with(c_group(b"from C, S", false, 600));
+    e.with(c_group(b"from C, SE", true, 600))
 }
 
 fn record_groups() -> Tally {

@@ -1,4 +1,5 @@
-// Which refusal goes first. Every rule that is broken has a key, its place in document 01's order; the least key decides.
+// Which refusal goes first. Every rule that is broken has a key, its place in document 01's order, and the least key decides: no check
+// waits for another.
 use crate::list::ARRIVAL;
 use crate::list::CRITICALITY;
 use crate::list::DEADLINE;

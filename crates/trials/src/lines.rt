@@ -1,4 +1,5 @@
-// Schedules made from a run's by a change: an entry, an idle tick, jobs exchanged, a number that is no job.
+// Schedules made from a run's by one change: an entry, an idle tick, two jobs or two ticks exchanged, a number that is no job. Some are
+// legal still, where jobs tie or nothing is changed.
 use crate::draw::draw;
 use crate::flight::entry_of;
 use crate::list::IDLE;

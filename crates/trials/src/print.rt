@@ -1,17 +1,27 @@
-// What the program writes: words and numbers, one space apart.
+// What the program writes: words and numbers, and of an input that made a difference all that it takes to repeat the call.
 use crate::answers::of_standing;
 use crate::list::List;
 use crate::list::at;
 use crate::list::entry_at;
 use zsrm::Record;
 
-// The input of a trial: the mode, the horizon, how many entries are lent, and the two lists.
+// The input of a trial: the mode, the horizon, how many entries are lent, the two lists, and the job that a call names or the tick that
+// a step is asked at.
 pub(crate) struct Input {
     pub se: bool,
     pub horizon: u32,
     pub room: usize,
     pub tasks: List,
     pub jobs: List,
+    pub number: u32,
+}
+
+impl Input {
+    pub(crate) fn at(self, number: u32) -> Input {
+        let mut next = self;
+        next.number = number;
+        next
+    }
 }
 
 pub(crate) fn text(words: &[u8]) {
@@ -70,6 +80,7 @@ pub(crate) fn print_input(inp: Input) {
     number(inp.horizon as u64);
     text(b" entries ");
     number(inp.room as u64);
+    count(b" number ", inp.number);
     print_list(b"\n  tasks", tasks);
     print_list(b"\n  jobs", jobs);
     text(b"\n");

@@ -1,4 +1,4 @@
-// The lines of counts.
+// The lines of counts, one to three for each group. A count that stays small would show that its group tries little.
 use crate::print::count;
 use crate::print::text;
 use crate::tally::BUSY_TICKS;
@@ -112,7 +112,13 @@ pub(crate) fn refusals(t: Tally) {
         }
     }
     count(b"; taken ", t.get(TAKEN));
-    from_c(t);
+    text(b"\n");
+}
+
+// The claims of a group from C.
+pub(crate) fn claims_from_c(t: Tally) {
+    count(b"  claims legal ", t.get(C_LEGAL));
+    count(b", not legal ", t.get(C_NOT_LEGAL));
     text(b"\n");
 }
 

@@ -1,4 +1,5 @@
-// Runs and fresh records, against the simulator.
+// Runs and fresh records, against the simulator: the outcome, every entry of the lent list and those past it, and the record at all 64
+// places. A refused call must leave the list as it was and answer a blank record.
 use crate::answers::mode_of;
 use crate::answers::of_outcome;
 use crate::answers::refusal;

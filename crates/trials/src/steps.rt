@@ -1,4 +1,5 @@
-// The step: repeated from the fresh record, and once from any record.
+// The step, repeated from the fresh record and once from any record. All that a step reports is compared: the entry, the ready word and
+// its ones, the word of jobs ended, the record.
 ghost use Prim.Native.Nat.{_<_};
 use crate::answers::mode_of;
 use crate::answers::of_outcome;
@@ -118,7 +119,7 @@ fn one_more(now: Stepping, inp: Input, tasks: &[u32], jobs: &[u32]) -> Stepping 
     let next = leap(s, inp.se, tasks, jobs, x, s.now % 65536 + 1);
     let ending = if got.ended == 0 { 0 } else { 1 };
     Stepping {
-        t: t.note(inp, b"step", 0, faults)
+        t: t.note(inp.at(s.now), b"step", 0, faults)
             .plus(STEPS)
             .more(ENDING_STEPS, ending),
         record,

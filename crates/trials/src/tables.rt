@@ -190,6 +190,7 @@ fn make_input(trial: u32, se: bool, count: u32, most: u32) -> Input {
         room: h as usize,
         tasks,
         jobs,
+        number: 0,
     }
 }
 

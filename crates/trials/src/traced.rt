@@ -131,7 +131,7 @@ fn try_letters(
         if i < letters.len() {
             let got = of_verdict(zsrm::verdict(rec, mode_of(inp.se), tasks, jobs, j));
             now = now.note(
-                inp,
+                inp.at(j),
                 b"verdict of the table",
                 verdict_meant(letter(letters, i)),
                 got,
@@ -273,6 +273,7 @@ fn list_a(se: bool, c: u32, arrival: u32, horizon: u32) -> Input {
         room: horizon as usize,
         tasks: list_of(&table),
         jobs: list_of(&list),
+        number: 0,
     }
 }
 
@@ -323,6 +324,7 @@ fn case_10(t: Tally, se: bool) -> Tally {
         room: 6,
         tasks: list_of(&table),
         jobs: list_of(&list),
+        number: 0,
     };
     let run = try_case(t, inp, ends([3, 6, 0, 0]), b"000111", b"mm");
     let other = try_case(run, inp, claims(0), b"111000", b"");
