@@ -76,7 +76,8 @@ fn handed(inp: Input, trial: u32) -> Handed {
     let mut h = plain(inp);
     let kind = draw(trial, 40, 10);
     if kind == 0 {
-        h.mode = 2 + draw(trial, 41, 300);
+        let span = if rarely(trial, 47, 2) { 1 } else { 300 };
+        h.mode = 2 + draw(trial, 41, span);
     }
     if kind == 1 {
         h.mode = 16777216 * (1 + draw(trial, 41, 255) % 255);
