@@ -1,30 +1,33 @@
 -- The promises, for every input, either mode, and every legal schedule, ours and any other. Read this file first.
 --
--- `claimAnswer g horizon schedule` is what the claim check answers, `runAnswer` and `runSchedule` what our run does; `..Said` says an
--- answer in document 01's numbers, 0 ∷ [] being "done", "legal", "met" and "accepted". `recordBefore g schedule t` is the record before
+-- `claimAnswer g horizon schedule` is what the claim check answers, `runAnswer` and `runSchedule` what our run does: each `..Answer`, and for
+-- the calls from C each `..Result`, is the whole contract of its function in src/. `..Said` says an answer in document 01's numbers,
+-- 0 ∷ [] being "done", "legal", "met" and "accepted". `recordBefore g schedule t` is the record before
 -- tick t of the schedule, and `replayed g schedule` the one at its end. All of them are definitions of specs/. Laws/Promises has
--- `stepsFrom`, two lines, and `topmost-example`, a table that meets the premise of (ii).
+-- `topmost-example`, a table that meets the premise of (ii).
 use Prim.Native.Nat.{_+_, _-_, _<_, ℕ, _≤_}
 use mathlib.Core.Bool.{true}
 use mathlib.Core.List.{List, [], _∷_}
 use mathlib.Core.Logic.{_↔_, _⊎_}
-use mathlib.Core.Path.{ap, subst, _≡_}
+use mathlib.Core.Path.{ap, subst, _∙_, _≡_}
 use native.Mathlib.Omega.{arith}
 use lib.ListN.{getD, length}
 use Rattle.zsrm.specs.declared.record.Record.{Record}
 use Rattle.zsrm.specs.declared.record.Standing.the-variants.{Ended, Finished}
-use Rattle.zsrm.specs.Answers.{claimAnswer, claimSaid, freshAnswer, outcomeSaid, responseAnswer, runAnswer, runSchedule, stepAnswer, verdictAnswer, verdictSaid, witnessAnswer, witnessSaid}
+use Rattle.zsrm.specs.Answers.{claimAnswer, claimSaid, freshAnswer, outcomeSaid, responseAnswer, runAnswer, runSchedule, stepAnswer, stepsFrom, verdictAnswer, verdictSaid, witnessAnswer, witnessSaid}
+use Rattle.zsrm.specs.Bytes.{bytes2, claimResult, givenBytes, numbers2, runBytes, runResult}
 use Rattle.zsrm.specs.Legal.{claim}
-use Rattle.zsrm.specs.Record.{consistent, fresh, standingAt}
+use Rattle.zsrm.specs.Record.{blank, consistent, fresh, standingAt}
 use Rattle.zsrm.specs.Run.{recordBefore, replayed}
 use Rattle.zsrm.specs.Tables.{Given, arrival, deadlineInstant, idle, jobCount, jobCriticality, taskOf, zeroSlackInstant}
 use Rattle.zsrm.specs.Topmost.{Topmost, assured}
 use Rattle.zsrm.proofs.Laws.Accepted.{few-jobs, job}
-use Rattle.zsrm.proofs.Laws.Answers.{is-legal, met-answer, run-claim}
+use Rattle.zsrm.proofs.Laws.Answers.{is-legal, met-answer, run-claim, run-outcome, unless-done}
 use Rattle.zsrm.proofs.Laws.Consistent.{advanced-consistent, fresh-consistent, pending-alive}
 use Rattle.zsrm.proofs.Laws.Places.{tick-fresh}
-use Rattle.zsrm.proofs.Laws.Promises.{accepted-says, met-not-missed, missed-accepted, ran-consistent, ran-entry, ran-replayed, ran-step-done, ran-steps, run-checked, shown-entries, shown-length, stepsFrom}
+use Rattle.zsrm.proofs.Laws.Promises.{accepted-says, met-not-missed, missed-accepted, ran-consistent, ran-entry, ran-replayed, ran-step-done, ran-steps, run-checked, run-refused-keeps, shown-entries, shown-length}
 use Rattle.zsrm.proofs.Laws.Replay.{kept-at, legal-at, legal-dispatch, replayed-is, tick-recordBefore}
+use Rattle.zsrm.proofs.Laws.Small.{c-claim-zero, c-run-zero}
 use Rattle.zsrm.proofs.Laws.Tick.{dispatch-serves, past-of}
 use Rattle.zsrm.proofs.Laws.Topmost.{assured-in-time, topmost-finished}
 
@@ -52,6 +55,23 @@ module _ (g : Given) (horizon : ℕ) (lent : List ℕ) (done : outcomeSaid (runA
       → (outcomeSaid (stepAnswer g (stepsFrom g (freshAnswer (g .tasks) (g .jobs) .«record») t) .outcome) ≡ 0 ∷ [])
       × (getD (runSchedule g horizon lent) t idle ≡ stepAnswer g (stepsFrom g (freshAnswer (g .tasks) (g .jobs) .«record») t) .entry)
   run-each-step t l = let ok = run-checked g horizon lent done in (ran-step-done g horizon lent ok t l, ran-entry g horizon lent ok t l)
+
+-- Where our run is refused, the lent list keeps what it held and the record is blank.
+pub refused-keeps : (g : Given) (horizon : ℕ) (lent : List ℕ) (number place : ℕ) → outcomeSaid (runAnswer g horizon lent .outcome) ≡ number ∷ place ∷ []
+    → (runSchedule g horizon lent ≡ lent) × (runAnswer g horizon lent .«record» ≡ blank)
+refused-keeps g horizon lent number place says = run-refused-keeps g horizon lent number place says
+
+-- The calls from C: a result of 0 is "done" and "legal" of the lists that the bytes spell, and the bytes then written are our run's.
+module _ (mode : ℕ) (tasks jobs : List ℕ) (horizon : ℕ) (bytes : List ℕ) where
+  pub c-run-done : runResult mode tasks jobs horizon bytes ≡ 0
+      → (outcomeSaid (runAnswer (givenBytes mode tasks jobs) horizon (numbers2 bytes) .outcome) ≡ 0 ∷ [])
+      × (runBytes mode tasks jobs horizon bytes ≡ bytes2 (runSchedule (givenBytes mode tasks jobs) horizon (numbers2 bytes)))
+  unfolding outcomeSaid
+  c-run-done e = let w = c-run-zero mode tasks jobs horizon bytes e in (ap outcomeSaid (run-outcome _ horizon (numbers2 bytes) ∙ w .0), w .1)
+
+  pub c-claim-legal : claimResult mode tasks jobs horizon bytes ≡ 0 → claimSaid (claimAnswer (givenBytes mode tasks jobs) horizon (numbers2 bytes)) ≡ 0 ∷ []
+  unfolding claimSaid claimAnswer
+  c-claim-legal e = let w = c-claim-zero mode tasks jobs horizon bytes e in ap claimSaid (unless-done _ _ _ (w .0) ∙ w .1)
 
 -- An accepted witness is exactly a legal schedule in which a job of the list is late (1) or ended (2).
 pub witness-exactly : (g : Given) (horizon : ℕ) (schedule : List ℕ) (j : ℕ) → witnessSaid (witnessAnswer g horizon schedule j) ≡ 0 ∷ []

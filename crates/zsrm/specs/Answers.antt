@@ -1,6 +1,6 @@
 -- What each entry point answers, refusals first, and what the caller's schedule list holds afterwards. An entry point makes only the
 -- checks for what it is given. Then every answer said in document 01's numbers.
-use Prim.Native.Nat.{ℕ, _+_}
+use Prim.Native.Nat.{ℕ, zero, suc, _+_}
 use mathlib.Core.List.{List, [], _∷_}
 use Rattle.zsrm.specs.declared.tables.Mode.{Mode}
 use Rattle.zsrm.specs.declared.record.Record.{Record}
@@ -77,6 +77,11 @@ module _ (g : Given) where
   -- The entry points that are given a mode; a fresh record needs none.
   unfoldable pub stepAnswer : Record → Stepped
   stepAnswer r = unless (checkStep r) refusedStep (stepped g r)
+
+  -- what `step` gives, repeated n times from r
+  unfoldable pub stepsFrom : Record → ℕ → Record
+  stepsFrom r zero = r
+  stepsFrom r (suc n) = stepAnswer (stepsFrom r n) .«record»
 
   unfoldable pub runAnswer : ℕ → List ℕ → Ran
   runAnswer horizon schedule = ran (checkSchedule horizon schedule) (runRecord g horizon)

@@ -15,10 +15,10 @@ use Rattle.zsrm.specs.declared.answers.Outcome.the-variants.{Done, Refus
 use Rattle.zsrm.specs.declared.answers.Stepped.{Stepped}
 use Rattle.zsrm.specs.declared.record.Record.{Record}
 use Rattle.zsrm.specs.declared.record.Standing.the-variants.{Finished}
-use Rattle.zsrm.specs.Answers.{checkGiven, checkSchedule, checkStep, checkVerdict, checkWitness, claimAnswer, claimSaid, freshAnswer, outcomeSaid, ran, responseAnswer, runAnswer, runSchedule, stepAnswer, stepped, unless, verdictAnswer, verdictSaid, witnessAnswer, witnessSaid}
+use Rattle.zsrm.specs.Answers.{checkGiven, checkSchedule, checkStep, checkVerdict, checkWitness, claimAnswer, claimSaid, freshAnswer, outcomeSaid, ran, responseAnswer, runAnswer, runSchedule, stepAnswer, stepped, stepsFrom, unless, verdictAnswer, verdictSaid, witnessAnswer, witnessSaid}
 use Rattle.zsrm.specs.Code.Claims.{FitsIn}
 use Rattle.zsrm.specs.Legal.{claim}
-use Rattle.zsrm.specs.Record.{consistent, fresh, standingAt}
+use Rattle.zsrm.specs.Record.{blank, consistent, fresh, standingAt}
 use Rattle.zsrm.specs.Refusals.{ascending, before, check11, check12, check13, check2, check3, check4, checkLists, checkTasks, outside, refuse}
 use Rattle.zsrm.specs.Run.{entries, entriesBy, final, replay, replayed, runEntries, runRecord}
 use Rattle.zsrm.specs.Tables.{Given, arrival, criticality, deadline, idle, jobCount, nominal, overload, period, priority, taskCount, zeroSlack}
@@ -26,7 +26,7 @@ use Rattle.zsrm.specs.Tick.{advanced, choice}
 use Rattle.zsrm.specs.Topmost.{Topmost}
 use Rattle.zsrm.specs.Verdict.{missed, part, verdict, witness}
 use Rattle.zsrm.proofs.Laws.Accepted.{few-jobs}
-use Rattle.zsrm.proofs.Laws.Answers.{accepted, accepted-lists, is-legal, unless-done}
+use Rattle.zsrm.proofs.Laws.Answers.{accepted, accepted-lists, is-legal, unless-done, unless-refused}
 use Rattle.zsrm.proofs.Laws.Consistent.{fresh-consistent}
 use Rattle.zsrm.proofs.Laws.Going.{Going, going-more, going-none, steps-entry}
 use Rattle.zsrm.proofs.Laws.Places.{tick-fresh}
@@ -37,11 +37,6 @@ use Rattle.zsrm.proofs.Readings.{missed-reads, witness-reads}
 use Rattle.zsrm.specs.declared.answers.Claim.the-variants as claims
 use Rattle.zsrm.specs.declared.answers.Verdict.the-variants as verdicts
 use Rattle.zsrm.specs.declared.answers.Witness.the-variants as witnesses
-
--- what `step` gives, repeated
-unfoldable pub stepsFrom : Given → Record → ℕ → Record
-stepsFrom g r zero = r
-stepsFrom g r (suc n) = stepAnswer g (stepsFrom g r n) .«record»
 
 -- an answer that is none of the refusals says that nothing was refused
 module _ {A : Type 0} (refused : ℕ → ℕ → A) (answer x : A) (never : (number place : ℕ) → refused number place ≡ x → ⊥) where
@@ -78,6 +73,13 @@ getD-entries g r (suc n) (suc t) l = getD-entries g (advanced g r (choice g r)) 
 pub run-checked : (g : Given) (horizon : ℕ) (lent : List ℕ) → outcomeSaid (runAnswer g horizon lent .outcome) ≡ 0 ∷ [] → checkSchedule g horizon lent ≡ Done
 unfolding runAnswer ran outcomeSaid
 run-checked g horizon lent done = outcome-said (checkSchedule g horizon lent) Done done
+
+pub run-refused-keeps : (g : Given) (horizon : ℕ) (lent : List ℕ) (number place : ℕ) → outcomeSaid (runAnswer g horizon lent .outcome) ≡ number ∷ place ∷ []
+    → (runSchedule g horizon lent ≡ lent) × (runAnswer g horizon lent .«record» ≡ blank)
+unfolding runAnswer runSchedule ran outcomeSaid
+run-refused-keeps g horizon lent number place says =
+    let e = outcome-said (checkSchedule g horizon lent) (Refused number place) says in
+    (unless-refused _ _ _ number place e, unless-refused _ _ _ number place e)
 
 module _ (g : Given) (horizon : ℕ) (lent : List ℕ) (ok : checkSchedule g horizon lent ≡ Done) where
   ran-record : runAnswer g horizon lent .«record» ≡ final g (fresh (g .jobs)) horizon

@@ -1,36 +1,41 @@
--- Every refusal's number and place are small, so that they pack into one number.
+-- Every refusal's number is at least 1, and number and place are small, so that they pack into one number, which is not 0. Then what the
+-- results of the calls from C say of the lists that the bytes spell.
 use Prim.Native.Nat.{_%_, _*_, _+_, _/_, _<_, suc, zero, ℕ, _≤_}
 use mathlib.Core.Bool.{Bool, false, not, true}
-use mathlib.Core.List.{List}
+use mathlib.Core.List.{List, [], _∷_}
+use mathlib.Core.Logic.{inl}
 use mathlib.Core.Path.{ap, ap₂, refl, subst, sym, _∙_, _≡_}
 use native.Mathlib.Omega.{arith}
 use lib.Dec.{eqb, ltb}
 use lib.ListN.{length}
-use borrow.Author.Tests.{eqb-true, ltb-false, not-false}
+use borrow.Author.Tests.{eqb-true, le-ltb, ltb-false, not-false}
 use Rattle.bits.proofs.Bools.{or-right-false}
 use Rattle.zsrm.specs.declared.answers.Outcome.{Outcome}
 use Rattle.zsrm.specs.declared.answers.Outcome.the-variants.{Done, Refused}
+use Rattle.zsrm.specs.declared.answers.Claim.{Claim}
+use Rattle.zsrm.specs.declared.record.Record.{Record}
 use Rattle.zsrm.specs.declared.tables.Mode.{Mode}
-use Rattle.zsrm.specs.Answers.{given}
+use Rattle.zsrm.specs.Answers.{checkGiven, checkSchedule, given, runSchedule, unless}
 use Rattle.zsrm.specs.Bytes.{bytes2, checkBytes, claimResult, givenBytes, modeOf, numbers2, numbers4, packedClaim, packedOutcome, runBytes, runResult, uneven}
-use Rattle.zsrm.specs.Legal.{claim}
+use Rattle.zsrm.specs.Legal.{claim, claimFrom, legalEntry}
 use Rattle.zsrm.specs.Refusals.{ascending, before, check1, check10, check2, check3, check4, check5, check6, check7, check8, check9, checkJobs, checkLists, checkTasks, outside, refuse}
 use Rattle.zsrm.specs.Run.{runEntries}
-use Rattle.zsrm.specs.Tables.{jobCount, taskCount}
+use Rattle.zsrm.specs.Tables.{Given, jobCount, taskCount}
+use Rattle.zsrm.specs.Tick.{advanced}
 use Rattle.zsrm.proofs.Laws.Accepted.{job, task}
-use Rattle.zsrm.proofs.Laws.Answers.{unless-done, unless-refused}
+use Rattle.zsrm.proofs.Laws.Answers.{run-given, schedule-checked, unless-done, unless-refused}
 use Rattle.zsrm.proofs.Laws.Bytes.{jobs-small, length-numbers2, tasks-small}
 use Rattle.zsrm.proofs.Laws.Refusals.{before-first, before-second, refuse-fine}
 use Rattle.zsrm.specs.declared.answers.Claim.the-variants as claims
 
 abbrev pub Small : Outcome → Type 0
 Small Done = Unit {0}
-Small (Refused number place) = (number ≤ 13) × (place ≤ 64)
+Small (Refused number place) = (1 ≤ number) × (number ≤ 13) × (place ≤ 64)
 
-small-refuse : (b : Bool) (number place : ℕ) → number ≤ 13 → place ≤ 64 → Small (refuse b number place)
+small-refuse : (b : Bool) (number place : ℕ) → 1 ≤ number → number ≤ 13 → place ≤ 64 → Small (refuse b number place)
 unfolding refuse
-small-refuse true n p h k = (h, k)
-small-refuse false n p h k = tt
+small-refuse true n p g h k = (g, h, k)
+small-refuse false n p g h k = tt
 
 -- a later check matters only where the earlier one is done
 small-before : (a b : Outcome) → Small a → (a ≡ Done → Small b) → Small (before a b)
@@ -46,9 +51,9 @@ small-ascending f (suc n) h = small-before (ascending n f) (f n) (small-ascendin
 small-tasks : (tasks : List ℕ) → Small (checkTasks tasks)
 unfolding checkTasks check2 check3 check4
 small-tasks tasks =
-    small-before (check2 tasks) _ (small-refuse _ 2 0 (omega arith) (omega arith))
+    small-before (check2 tasks) _ (small-refuse _ 2 0 (omega arith) (omega arith) (omega arith))
     (λ ok. small-ascending _ (taskCount tasks) (λ k l. let few = few-tasks tasks ok in
-    small-before (check3 tasks k) (check4 tasks k) (small-refuse _ 3 k (omega arith) (omega arith)) (λ _. small-refuse _ 4 k (omega arith) (omega arith))))
+    small-before (check3 tasks k) (check4 tasks k) (small-refuse _ 3 k (omega arith) (omega arith) (omega arith)) (λ _. small-refuse _ 4 k (omega arith) (omega arith) (omega arith))))
   where
     few-tasks : (tasks : List ℕ) → check2 tasks ≡ Done → taskCount tasks ≤ 16
     few-tasks tasks ok = unfold outside in ltb-false 16 (taskCount tasks) (or-right-false (ltb (taskCount tasks) 1) _ (or-right-false (not (eqb (length tasks % 7) 0)) _ (refuse-fine _ _ _ ok)))
@@ -56,19 +61,19 @@ small-tasks tasks =
 small-jobs : (tasks jobs : List ℕ) → Small (checkJobs tasks jobs)
 unfolding checkJobs check5 check6 check7 check8
 small-jobs tasks jobs =
-    small-before (check5 jobs) _ (small-refuse _ 5 0 (omega arith) (omega arith))
+    small-before (check5 jobs) _ (small-refuse _ 5 0 (omega arith) (omega arith) (omega arith))
     (λ ok. small-ascending _ (jobCount jobs) (λ j l. let few = ltb-false 64 (jobCount jobs) (or-right-false (not (eqb (length jobs % 3) 0)) _ (refuse-fine _ _ _ ok)) in
-    small-before (check6 tasks jobs j) _ (small-refuse _ 6 j (omega arith) (omega arith))
-    (λ _. small-before (check7 jobs j) _ (small-refuse _ 7 j (omega arith) (omega arith)) (λ _. small-refuse _ 8 j (omega arith) (omega arith)))))
+    small-before (check6 tasks jobs j) _ (small-refuse _ 6 j (omega arith) (omega arith) (omega arith))
+    (λ _. small-before (check7 jobs j) _ (small-refuse _ 7 j (omega arith) (omega arith) (omega arith)) (λ _. small-refuse _ 8 j (omega arith) (omega arith) (omega arith)))))
 
 pub small-bytes : (mode : ℕ) (tasks jobs : List ℕ) (horizon : ℕ) (schedule : List ℕ) → Small (checkBytes mode tasks jobs horizon schedule)
 unfolding checkBytes check1 uneven check9 check10
 small-bytes mode tasks jobs horizon schedule =
-    small-before (check1 mode) _ (small-refuse _ 1 0 (omega arith) (omega arith))
-    (λ _. small-before _ _ (small-before (uneven tasks 4 2) _ (small-refuse _ 2 0 (omega arith) (omega arith)) (λ _. small-tasks (numbers4 tasks)))
-    (λ _. small-before _ _ (small-before (uneven jobs 4 5) _ (small-refuse _ 5 0 (omega arith) (omega arith)) (λ _. small-jobs (numbers4 tasks) (numbers4 jobs)))
-    (λ _. small-before (check9 horizon) _ (small-refuse _ 9 0 (omega arith) (omega arith))
-    (λ _. small-before (uneven schedule 2 10) _ (small-refuse _ 10 0 (omega arith) (omega arith)) (λ _. small-refuse _ 10 0 (omega arith) (omega arith))))))
+    small-before (check1 mode) _ (small-refuse _ 1 0 (omega arith) (omega arith) (omega arith))
+    (λ _. small-before _ _ (small-before (uneven tasks 4 2) _ (small-refuse _ 2 0 (omega arith) (omega arith) (omega arith)) (λ _. small-tasks (numbers4 tasks)))
+    (λ _. small-before _ _ (small-before (uneven jobs 4 5) _ (small-refuse _ 5 0 (omega arith) (omega arith) (omega arith)) (λ _. small-jobs (numbers4 tasks) (numbers4 jobs)))
+    (λ _. small-before (check9 horizon) _ (small-refuse _ 9 0 (omega arith) (omega arith) (omega arith))
+    (λ _. small-before (uneven schedule 2 10) _ (small-refuse _ 10 0 (omega arith) (omega arith) (omega arith)) (λ _. small-refuse _ 10 0 (omega arith) (omega arith) (omega arith))))))
 
 -- what a call from C that is not refused says of its lists
 pub record Called (mode : ℕ) (tasks jobs : List ℕ) (horizon : ℕ) (schedule : List ℕ) : Type 0 where
@@ -97,7 +102,7 @@ called mode tasks jobs horizon schedule ok =
       bounded = ltb-false 16384 horizon (refuse-fine _ _ _ (before-first (check9 horizon) _ rest3));
     }
 
-pub small-refused : (o : Outcome) (number place : ℕ) → o ≡ Refused number place → Small o → (number ≤ 13) × (place ≤ 64)
+pub small-refused : (o : Outcome) (number place : ℕ) → o ≡ Refused number place → Small o → (1 ≤ number) × (number ≤ 13) × (place ≤ 64)
 small-refused o n p e s = subst Small e s
 
 -- the results of the calls, where nothing is refused and where something is
@@ -124,7 +129,7 @@ module _ (mode : ℕ) (tasks jobs : List ℕ) (horizon : ℕ) (schedule : List �
       ∙ sym (ap packedClaim (unless-done claims.Refused (claim (givenBytes mode tasks jobs) (numbers2 schedule)) (checkBytes mode tasks jobs horizon schedule) ok))
 
   module _ (number place : ℕ) (e : checkBytes mode tasks jobs horizon schedule ≡ Refused number place) where
-    pub c-fits : (number ≤ 13) × (place ≤ 64)
+    pub c-fits : (1 ≤ number) × (number ≤ 13) × (place ≤ 64)
     c-fits = small-refused _ number place e (small-bytes mode tasks jobs horizon schedule)
 
     pub c-refused : number + 256 * place ≡ runResult mode tasks jobs horizon schedule
@@ -138,3 +143,57 @@ module _ (mode : ℕ) (tasks jobs : List ℕ) (horizon : ℕ) (schedule : List �
     pub c-claim-refused : number + 256 * place ≡ claimResult mode tasks jobs horizon schedule
     unfolding claimResult packedClaim
     c-claim-refused = sym (ap packedClaim (unless-refused claims.Refused (claim (givenBytes mode tasks jobs) (numbers2 schedule)) (checkBytes mode tasks jobs horizon schedule) number place e))
+
+-- the claim check itself refuses nothing
+claim-plain : (g : Given) (r : Record) (last : ℕ) (es : List ℕ) (number place : ℕ) → claimFrom g r last es ≡ claims.Refused number place → ⊥
+unfolding claimFrom
+claim-plain g r last [] number place e = let z : _≡_ {A = ℕ} 0 1 = cc in omega arith
+claim-plain g r last (x ∷ es) number place e = by-test (legalEntry g r last x) (claim-plain g (advanced g r x) x es number place) e
+  where
+    by-test : (b : Bool) → (claimFrom g (advanced g r x) x es ≡ claims.Refused number place → ⊥)
+        → elim b [ true ↦ claimFrom g (advanced g r x) x es | false ↦ claims.NotLegal (r .tick) ] ≡ claims.Refused number place
+        → ⊥
+    by-test true never e = never e
+    by-test false never e = let z : _≡_ {A = ℕ} 0 1 = cc in omega arith
+
+-- a packed answer of 0 is the answer itself
+zero-outcome : (o : Outcome) → Small o → packedOutcome o ≡ 0 → o ≡ Done
+unfolding packedOutcome
+zero-outcome Done small e = refl
+zero-outcome (Refused number place) small e = absurd (omega (arith, small .0))
+
+zero-claim : (c : Claim) → ((number place : ℕ) → c ≡ claims.Refused number place → ⊥) → packedClaim c ≡ 0 → c ≡ claims.Legal
+unfolding packedClaim
+zero-claim (claims.Refused number place) never e = absurd (never number place refl)
+zero-claim claims.Legal never e = refl
+zero-claim (claims.NotLegal t) never e = absurd (omega arith)
+
+module _ (mode : ℕ) (tasks jobs : List ℕ) (horizon : ℕ) (schedule : List ℕ) where
+  -- bytes that no check refuses spell lists that none refuses
+  spelled-fine : checkBytes mode tasks jobs horizon schedule ≡ Done → checkSchedule (givenBytes mode tasks jobs) horizon (numbers2 schedule) ≡ Done
+  unfolding checkGiven givenBytes check9 refuse before
+  spelled-fine ok =
+      let w = called mode tasks jobs horizon schedule ok in
+      schedule-checked (givenBytes mode tasks jobs) horizon (numbers2 schedule) (inl (length-numbers2 schedule ∙ w .whole)) ∙ rw (w .lists, le-ltb 16384 horizon (w .bounded))
+
+  pub c-run-zero : runResult mode tasks jobs horizon schedule ≡ 0
+      → (checkSchedule (givenBytes mode tasks jobs) horizon (numbers2 schedule) ≡ Done)
+      × (runBytes mode tasks jobs horizon schedule ≡ bytes2 (runSchedule (givenBytes mode tasks jobs) horizon (numbers2 schedule)))
+  unfolding runResult runBytes
+  c-run-zero e =
+      let ok = zero-outcome (checkBytes mode tasks jobs horizon schedule) (small-bytes mode tasks jobs horizon schedule) e in
+      let fine = spelled-fine ok in
+      (fine, unless-done _ _ _ ok ∙ ap bytes2 (sym (run-given (givenBytes mode tasks jobs) horizon (numbers2 schedule) fine .1)))
+
+  pub c-claim-zero : claimResult mode tasks jobs horizon schedule ≡ 0
+      → (checkSchedule (givenBytes mode tasks jobs) horizon (numbers2 schedule) ≡ Done) × (claim (givenBytes mode tasks jobs) (numbers2 schedule) ≡ claims.Legal)
+  unfolding claimResult claim
+  c-claim-zero e = by-check (checkBytes mode tasks jobs horizon schedule) refl (small-bytes mode tasks jobs horizon schedule) e
+    where
+      by-check : (o : Outcome) → checkBytes mode tasks jobs horizon schedule ≡ o → Small o
+          → packedClaim (unless o claims.Refused (claim (givenBytes mode tasks jobs) (numbers2 schedule))) ≡ 0
+          → (checkSchedule (givenBytes mode tasks jobs) horizon (numbers2 schedule) ≡ Done) × (claim (givenBytes mode tasks jobs) (numbers2 schedule) ≡ claims.Legal)
+      by-check Done ok small z = (spelled-fine ok, zero-claim _ (claim-plain _ _ _ (numbers2 schedule)) (unfold unless in z))
+      by-check (Refused number place) ok small z =
+          let p : number + 256 * place ≡ 0 = unfold unless packedClaim in z in
+          absurd (omega (arith, small .0))
