@@ -1,4 +1,4 @@
-/* A tick-by-tick simulator, written from document 01 alone and in its order. */
+/* A tick-by-tick simulator of document 01, in its order. It shares nothing with the library. */
 #include "simulator.h"
 
 enum {

@@ -32,9 +32,10 @@
    A job that has arrived and is neither finished nor ended is past zero slack from arrival + Z on.
    It then suspends every strictly less critical job. Of the jobs that are not suspended one of the
    highest priority runs. In mode SE a job past zero slack that has run longer than C also ends, for
-   good, every strictly less critical job that has arrived. A claim may settle ties among equal
-   priorities in any way, but may change from one job to another only at a scheduling instant: a
-   job arrives, finishes or reaches arrival + Z or, in SE, the job that ran has just reached C.
+   good, every strictly less critical job that has arrived and is neither finished nor ended. A claim
+   may settle ties among equal priorities in any way, but may change from one job to another only at
+   a scheduling instant: a job arrives, finishes or reaches arrival + Z or, in SE, the job that ran
+   has just reached C.
 
    The pointers
    ------------

@@ -54,9 +54,10 @@ unfoldable pub fresh : List ℕ → Record
 fresh jobs = record { tick = 0; places = listFrom 0 64 (freshPlace jobs) }
 
 -- What consistency asks of a place at tick t, by its standing. `se` is that the mode is SE, `here` that the place is a job's which has
--- arrived by t; a and c are that job's arrival and execution time. `a + done ≤ t` says done ≤ t − arrival. Not arrived exactly when it is no job's or its arrival exceeds t, and then 0 done; an unfinished or ended job has
--- done < c, a finished one done = c; done ≤ t − arrival; a finishing instant lies from arrival + c to t; an ending tick from arrival to
--- t − 1; in mode S nothing is ended.
+-- arrived by t; a and c are that job's arrival and execution time. `a + done ≤ t` says done ≤ t − arrival.
+-- Not arrived exactly when it is no job's or its arrival exceeds t, and then 0 done.
+-- An unfinished or ended job has done < c, a finished one done = c; done ≤ t − arrival.
+-- A finishing instant lies from arrival + c to t, an ending tick from arrival to t − 1; in mode S nothing is ended.
 abbrev pub soundPlace : Bool → Bool → ℕ → ℕ → ℕ → ℕ → Standing → Bool
 soundPlace se here a c t done NotArrived = not here && eqb done 0
 soundPlace se here a c t done Unfinished = here && ltb done c && leb (a + done) t

@@ -1,4 +1,5 @@
--- Document 01, "Traced schedules": the cases marked P, case 11, and one of ours, as one table. What a case says is set beside what the entry points answer.
+-- Document 01, "Traced schedules": the cases marked P, case 11, and one of ours, as one table. What a case says is set beside what the
+-- entry points answer.
 use Prim.Native.Nat.{ℕ}
 use mathlib.Core.List.{List, [], _∷_, _++_, map}
 use lib.ListN.{replicate}
@@ -33,7 +34,7 @@ pub record Case : Type 0 where
   pub claims : List (List ℕ)
   pub trace : Trace
 
--- what document 01 says of a case
+-- what document 01, and of the case of ours we, say of a case
 unfoldable pub said : Case → Trace
 said c = c .trace
 

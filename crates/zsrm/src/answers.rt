@@ -1,6 +1,5 @@
-use crate::record::Record;
-
 // What the entry points answer. A refusal is its number and its place, as document 01 numbers them.
+use crate::record::Record;
 
 // What the checks find, and what a run or a step came to.
 pub enum Outcome {

@@ -22,6 +22,7 @@ use crate::refusals::check9;
 use crate::refusals::refuse;
 use crate::tables::Mode;
 
+// The mode of its number; the checks refuse all but 0 and 1.
 fn mode_of(number: u32) -> Mode
     ensures { λ r. ⌜ r ≡ modeOf number ⌝ }
 {

@@ -29,6 +29,7 @@ use crate::tables::zero_slack_instant;
 use crate::tick::View;
 use crate::tick::has_priority;
 
+// Whether the standing is finished, at the instant t.
 fn is_finished_at(t: u32, standing: Standing) -> bool
     ensures { λ r. ⌜ r ≡ finishedAt t standing ⌝ }
 {

@@ -49,7 +49,7 @@ fn next_standing(
     }
 }
 
-// The ticks done, with one more where the job ran.
+// The ticks done, with one more where the job ran, as they go back into the record.
 fn done_after(done: u32, ran: bool) -> u32
     requires { ⌜ done ≤ 16384 ⌝ }
     ensures { λ r. ⌜ r ≡ done + cond ran 1 0 ⌝ }
@@ -57,6 +57,7 @@ fn done_after(done: u32, ran: bool) -> u32
     if ran { done + 1 } else { done }
 }
 
+// A job's place after tick t, in which it ran or did not, and was ended or was not.
 fn next_place(place: Place, t: u32, ran: bool, ended: bool, job: Job) -> Place
     requires { ⌜ (t < 16384) × (place .done ≤ 16384) ⌝ }
     ensures { λ r. ⌜ r ≡ nextPlace t ran ended (job .arrival) (job .execution) place ⌝ }

@@ -41,6 +41,7 @@ pub(crate) fn blank() -> Record
     }
 }
 
+// Whether the mode is SE.
 pub(crate) fn is_se(mode: Mode) -> bool
     ensures { λ r. ⌜ r ≡ isSE mode ⌝ }
 {
@@ -50,6 +51,7 @@ pub(crate) fn is_se(mode: Mode) -> bool
     }
 }
 
+// Whether the place is a job's, and the job has arrived by t.
 fn has_arrived(jobs: &[u32], t: u32, j: u32) -> bool
     ensures { λ r. ⌜ r ≡ arrived (now (jobs .entry)) t j ⌝ }
 {
@@ -72,6 +74,7 @@ fn is_sound(se: bool, here: bool, a: u32, c: u32, t: u32, done: u32, standing: S
     }
 }
 
+// What consistency asks of place j.
 fn is_sound_at(mode: Mode, jobs: &[u32], t: u32, j: u32, place: Place) -> bool
     ensures { λ r. ⌜ r ≡ soundPlace (isSE mode) (arrived (now (jobs .entry)) t j) (arrival (now (jobs .entry)) j) (execution (now (jobs .entry)) j) t (place .done) (place .standing) ⌝ }
 {
@@ -119,6 +122,7 @@ pub(crate) fn opening(listed: bool, a: u32, c: u32, t: u32) -> Standing
     }
 }
 
+// The place of job j at tick 0, nothing done.
 fn fresh_place(jobs: &[u32], j: u32) -> Place
     ensures { λ r. ⌜ r ≡ freshPlace (now (jobs .entry)) j ⌝ }
 {

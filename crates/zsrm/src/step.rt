@@ -75,6 +75,7 @@ fn refused_step(number: u32, place: u32) -> Stepped
     }
 }
 
+// What a step checks of its input: 2 to 8, 11, 12.
 fn check_step(rec: Record, mode: Mode, tasks: &[u32], jobs: &[u32]) -> Outcome
     ensures { λ r. ⌜ r ≡ checkStep (given mode (now (tasks .entry)) (now (jobs .entry))) rec ⌝ }
 {

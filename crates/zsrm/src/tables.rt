@@ -25,6 +25,7 @@ fn at(list: &[u32], i: usize) -> u32
     if i < list.len() { list[i] } else { 0 }
 }
 
+// How many jobs the list has.
 pub(crate) fn job_count(jobs: &[u32]) -> usize
     ensures { λ r. ⌜ r ≡ jobCount (now (jobs .entry)) ⌝ }
 {
@@ -43,6 +44,7 @@ pub(crate) struct Task {
     pub offset: u32,
 }
 
+// The fields of task k, 0 past the end.
 pub(crate) fn task_at(tasks: &[u32], k: u32) -> Task
     ensures { λ r. ⌜ r ≡ taskAt (now (tasks .entry)) k ⌝ }
 {
@@ -65,6 +67,7 @@ pub(crate) struct Job {
     pub execution: u32,
 }
 
+// The fields of job j, 0 past the end.
 pub(crate) fn job_at(jobs: &[u32], j: u32) -> Job
     ensures { λ r. ⌜ r ≡ jobAt (now (jobs .entry)) j ⌝ }
 {
@@ -84,6 +87,7 @@ pub(crate) fn task_of(tasks: &[u32], jobs: &[u32], j: u32) -> Task
     task_at(tasks, job.task)
 }
 
+// The criticality of a job's task.
 pub(crate) fn criticality_of(tasks: &[u32], jobs: &[u32], j: u32) -> Criticality
     ensures { λ r. ⌜ r .0 ≡ jobCriticality (lists (now (tasks .entry)) (now (jobs .entry))) j ⌝ }
 {
@@ -91,6 +95,7 @@ pub(crate) fn criticality_of(tasks: &[u32], jobs: &[u32], j: u32) -> Criticality
     task.criticality
 }
 
+// The priority of a job's task.
 pub(crate) fn priority_of(tasks: &[u32], jobs: &[u32], j: u32) -> Priority
     ensures { λ r. ⌜ r .0 ≡ jobPriority (lists (now (tasks .entry)) (now (jobs .entry))) j ⌝ }
 {
@@ -98,6 +103,7 @@ pub(crate) fn priority_of(tasks: &[u32], jobs: &[u32], j: u32) -> Priority
     task.priority
 }
 
+// The nominal time C of a job's task.
 pub(crate) fn nominal_of(tasks: &[u32], jobs: &[u32], j: u32) -> u32
     ensures { λ r. ⌜ r ≡ jobNominal (lists (now (tasks .entry)) (now (jobs .entry))) j ⌝ }
 {
@@ -124,6 +130,7 @@ pub(crate) fn deadline_instant(tasks: &[u32], jobs: &[u32], j: u32) -> u64
 }
 
 impl Criticality {
+    // Strictly more critical: a criticality is compared with a criticality only.
     pub(crate) fn exceeds(self, other: Criticality) -> bool
         ensures { λ r. ⌜ r ≡ ltb (other .0) (self .0) ⌝ }
     {
@@ -132,6 +139,7 @@ impl Criticality {
 }
 
 impl Priority {
+    // The same priority: a priority is compared with a priority only.
     pub(crate) fn equals(self, other: Priority) -> bool
         ensures { λ r. ⌜ r ≡ eqb (self .0) (other .0) ⌝ }
     {

@@ -24,6 +24,7 @@ pub(crate) struct View {
     pub ready: u64,
 }
 
+// Whether the standing is that of a job alive.
 fn is_unfinished(standing: Standing) -> bool
     ensures { λ r. ⌜ r ≡ unfinished standing ⌝ }
 {
@@ -35,6 +36,7 @@ fn is_unfinished(standing: Standing) -> bool
     }
 }
 
+// The jobs alive.
 fn alive_word(rec: Record, jobs: &[u32]) -> u64
     requires { ⌜ jobCount (now jobs) ≤ 64 ⌝ }
     ensures { λ r. ⌜ r ≡ jobWord (now (jobs .entry)) (alive rec) ⌝ }
@@ -51,6 +53,7 @@ fn alive_word(rec: Record, jobs: &[u32]) -> u64
     word
 }
 
+// Whether job j is in the set and its zero-slack instant has come.
 fn is_past(among: u64, tick: u32, j: u32, tasks: &[u32], jobs: &[u32]) -> bool
     ensures { λ r. ⌜ r ≡ isPast (lists (now (tasks .entry)) (now (jobs .entry))) among tick j ⌝ }
 {
@@ -72,6 +75,7 @@ fn past_word(among: u64, tick: u32, tasks: &[u32], jobs: &[u32]) -> u64
     word
 }
 
+// Whether job i is in the set and strictly more critical than c.
 fn outranks(by: u64, c: Criticality, i: u32, tasks: &[u32], jobs: &[u32]) -> bool
     ensures { λ r. ⌜ r ≡ outranks (lists (now (tasks .entry)) (now (jobs .entry))) by (c .0) i ⌝ }
 {
@@ -98,6 +102,7 @@ fn is_outranked(by: u64, c: Criticality, tasks: &[u32], jobs: &[u32]) -> bool
     false
 }
 
+// Whether job j is in the one set, and some job of the other is strictly more critical.
 fn lies_below(among: u64, by: u64, j: u32, tasks: &[u32], jobs: &[u32]) -> bool
     requires { ⌜ jobCount (now jobs) ≤ 64 ⌝ }
     ensures { λ r. ⌜ r ≡ liesBelow (lists (now (tasks .entry)) (now (jobs .entry))) among by j ⌝ }
@@ -140,6 +145,7 @@ fn priority_word(among: u64, tasks: &[u32], jobs: &[u32]) -> u64
     word
 }
 
+// Whether job j is in the set and has priority p.
 pub(crate) fn has_priority(among: u64, p: Priority, j: u32, tasks: &[u32], jobs: &[u32]) -> bool
     ensures { λ r. ⌜ r ≡ hasPriority (lists (now (tasks .entry)) (now (jobs .entry))) among (p .0) j ⌝ }
 {
@@ -162,13 +168,14 @@ fn lowest_of(among: u64, p: Priority, tasks: &[u32], jobs: &[u32]) -> u16
     65535
 }
 
-// The ticks done, with one more where the job ran.
+// The ticks done, with one more where the job ran; in 64 bits, as the record may hold any number.
 fn with_one(done: u32, ran: bool) -> u64
     ensures { λ r. ⌜ r ≡ done + cond ran 1 0 ⌝ }
 {
     if ran { (done as u64) + 1 } else { done as u64 }
 }
 
+// Whether job j is in the set, and its done, with one more if it runs, exceeds C.
 fn overruns(among: u64, entry: u16, j: u32, done: u32, tasks: &[u32], jobs: &[u32]) -> bool
     ensures { λ r. ⌜ r ≡ overruns (lists (now (tasks .entry)) (now (jobs .entry))) among entry j done ⌝ }
 {
@@ -194,6 +201,7 @@ pub(crate) fn overrun_word(rec: Record, among: u64, entry: u16, tasks: &[u32], j
 }
 
 impl View {
+    // What a tick sees of a record: the jobs alive, past zero slack and eligible, and the ready word.
     pub(crate) fn at(rec: Record, tasks: &[u32], jobs: &[u32]) -> View
         requires { ⌜ jobCount (now jobs) ≤ 64 ⌝ }
         ensures { λ r. ⌜ r ≡ view (lists (now (tasks .entry)) (now (jobs .entry))) rec ⌝ }

@@ -29,6 +29,7 @@ use crate::tables::Mode;
 use crate::tables::deadline_instant;
 use crate::tables::job_at;
 
+// One verdict or the other.
 fn either(test: bool, passes: Verdict, fails: Verdict) -> Verdict
     ensures { λ r. ⌜ r ≡ cond test passes fails ⌝ }
 {
@@ -58,6 +59,7 @@ fn judge_at(rec: Record, tasks: &[u32], jobs: &[u32], j: u32) -> Verdict
     judge(deadline_instant(tasks, jobs, j), rec.tick, standing)
 }
 
+// What a verdict checks of its input: 2 to 8, 11, 13.
 fn check_verdict(rec: Record, mode: Mode, tasks: &[u32], jobs: &[u32], j: u32) -> Outcome
     ensures { λ r. ⌜ r ≡ checkVerdict (given mode (now (tasks .entry)) (now (jobs .entry))) rec j ⌝ }
 {
