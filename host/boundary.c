@@ -494,6 +494,45 @@ static void nothing_to_do(void) {
     end_group("zero lengths");
 }
 
+/* Both calls where every list of length 0 is a null pointer. */
+static void check_null(const char *what, uint32_t want) {
+    const uint8_t *tasks = in.tasks_len == 0 ? NULL : in.tasks;
+    const uint8_t *jobs = in.jobs_len == 0 ? NULL : in.jobs;
+    uint8_t *schedule = in.schedule_len == 0 ? NULL : in.schedule;
+    uint32_t run = zsrm_run(in.mode, tasks, in.tasks_len, jobs, in.jobs_len, in.horizon, schedule,
+                            in.schedule_len);
+    uint32_t claim = zsrm_claim(in.mode, tasks, in.tasks_len, jobs, in.jobs_len, in.horizon,
+                                schedule, in.schedule_len);
+    check(run == want, what, "run", run, want);
+    check(claim == want, what, "claim", claim, want);
+}
+
+static void null_pointers(void) {
+    for (uint32_t mode = S; mode <= SE; mode++) {
+        list_a(mode, 5);
+        in.jobs_len = 0;
+        check_null("no jobs", 0);
+        for (uint32_t t = 0; t < in.horizon; t++)
+            check(get16(in.schedule, t) == ZSRM_IDLE, "no jobs", "entry", get16(in.schedule, t),
+                  ZSRM_IDLE);
+        set_horizon(&in, 0);
+        check_null("no jobs, no schedule", 0);
+        list_a(mode, 5);
+        set_horizon(&in, 0);
+        check_null("no schedule", 0);
+        in.horizon = 4;
+        check_null("no schedule of 4 ticks", ZSRM_REFUSED_SCHEDULE_LENGTH);
+        set_horizon(&in, 16);
+        in.tasks_len = 0;
+        check_null("no tasks", ZSRM_REFUSED_TASKS_LENGTH);
+        clear(&in, mode);
+        check_null("nothing at all", ZSRM_REFUSED_TASKS_LENGTH);
+        in.mode = 2;
+        check_null("nothing at all in no mode", ZSRM_REFUSED_MODE);
+    }
+    end_group("null pointers of length 0");
+}
+
 /* Each damage alone is refused with its number; together the lowest class goes first. */
 static void precedence(void) {
     list_a(S, 5);
@@ -542,6 +581,7 @@ int main(void) {
     schedule_lengths();
     full_size();
     nothing_to_do();
+    null_pointers();
     precedence();
     printf("boundary: %u checks, %u differ\n", checks, differ);
     return differ != 0;

@@ -117,10 +117,10 @@ static uint32_t refusal(uint32_t mode, const uint8_t *tasks, size_t tasks_len, c
 enum standing { NOT_ARRIVED, ALIVE, FINISHED, ENDED };
 
 struct job {
-    uint32_t arrival, time, zero, nominal; /* zero: arrival + Z */
+    uint32_t arrival, time, zero, nominal, deadline; /* zero: arrival + Z; deadline: arrival + D */
     int criticality, priority;
     enum standing standing;
-    uint32_t done, finish;
+    uint32_t done, instant; /* instant: at which it finished, or the tick in which it was ended */
 };
 
 struct state {
@@ -135,7 +135,7 @@ static void arrive(struct state *s) {
         struct job *job = &s->jobs[j];
         if (job->arrival == s->tick) {
             job->standing = job->time == 0 ? FINISHED : ALIVE;
-            job->finish = s->tick;
+            job->instant = s->tick;
         }
     }
 }
@@ -152,11 +152,12 @@ static void start(struct state *s, uint32_t mode, const uint8_t *tasks, const ui
         job->time = of_job(jobs, j, TIME);
         job->zero = job->arrival + of_task(tasks, task, Z);
         job->nominal = of_task(tasks, task, C);
+        job->deadline = job->arrival + of_task(tasks, task, D);
         job->criticality = (int)of_task(tasks, task, CRITICALITY);
         job->priority = (int)of_task(tasks, task, PRIORITY);
         job->standing = NOT_ARRIVED;
         job->done = 0;
-        job->finish = 0;
+        job->instant = 0;
     }
     arrive(s);
 }
@@ -210,8 +211,10 @@ static void end_jobs(struct state *s, uint32_t entry) {
     }
     for (uint32_t j = 0; j < s->count; j++) {
         struct job *job = &s->jobs[j];
-        if (job->standing == ALIVE && job->criticality < over)
+        if (job->standing == ALIVE && job->criticality < over) {
             job->standing = ENDED;
+            job->instant = s->tick;
+        }
     }
 }
 
@@ -225,7 +228,7 @@ static void advance(struct state *s, uint32_t entry) {
         job->done++;
         if (job->done == job->time) {
             job->standing = FINISHED;
-            job->finish = s->tick;
+            job->instant = s->tick;
         }
     }
     arrive(s);
@@ -238,7 +241,7 @@ static int is_instant(const struct state *s, uint32_t before) {
     for (uint32_t j = 0; j < s->count; j++) {
         const struct job *job = &s->jobs[j];
         if (job->arrival == s->tick || job->zero == s->tick ||
-            (job->standing == FINISHED && job->finish == s->tick))
+            (job->standing == FINISHED && job->instant == s->tick))
             return 1;
     }
     return s->ends && before != IDLE && s->jobs[before].done == s->jobs[before].nominal;
@@ -291,19 +294,32 @@ uint32_t sim_claim(uint32_t mode, const uint8_t *tasks, size_t tasks_len, const 
     return 0;
 }
 
-/* ---- For the random test ---- */
+/* ---- Verdicts ---- */
 
-uint32_t sim_ended(uint32_t mode, const uint8_t *tasks, const uint8_t *jobs, size_t jobs_len,
-                   uint32_t horizon) {
+static struct sim_fate fate_of(const struct state *s, const struct job *job) {
+    struct sim_fate fate = {SIM_OPEN, 0, 0};
+    if (job->standing == ENDED)
+        fate.verdict = SIM_ENDED;
+    else if (job->standing == FINISHED)
+        fate.verdict = job->instant <= job->deadline ? SIM_MET : SIM_LATE;
+    else if (job->standing == ALIVE && s->tick >= job->deadline)
+        fate.verdict = SIM_LATE;
+    fate.has_instant = job->standing == ENDED || job->standing == FINISHED;
+    fate.instant = fate.has_instant ? job->instant : 0;
+    return fate;
+}
+
+void sim_fates(uint32_t mode, const uint8_t *tasks, const uint8_t *jobs, size_t jobs_len,
+               uint32_t horizon, struct sim_fate *fates) {
     struct state s;
-    uint32_t ended = 0;
     start(&s, mode, tasks, jobs, jobs_len);
     while (s.tick < horizon)
         advance(&s, lowest_candidate(&s, choices(&s)));
     for (uint32_t j = 0; j < s.count; j++)
-        ended += s.jobs[j].standing == ENDED;
-    return ended;
+        fates[j] = fate_of(&s, &s.jobs[j]);
 }
+
+/* ---- For the random test ---- */
 
 static uint32_t drawn_candidate(const struct state *s, uint32_t (*draw)(uint32_t n)) {
     struct choice c = choices(s);

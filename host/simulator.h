@@ -15,9 +15,19 @@ uint32_t sim_claim(uint32_t mode, const uint8_t *tasks, size_t tasks_len, const 
 
 /* The two below are for lists that are not refused. */
 
-/* How many jobs the run ends. */
-uint32_t sim_ended(uint32_t mode, const uint8_t *tasks, const uint8_t *jobs, size_t jobs_len,
-                   uint32_t horizon);
+enum sim_verdict { SIM_MET, SIM_LATE, SIM_ENDED, SIM_OPEN };
+
+/* What has become of a job. The instant is that at which it finished, or the tick in which it was
+   ended. */
+struct sim_fate {
+    enum sim_verdict verdict;
+    int has_instant;
+    uint32_t instant;
+};
+
+/* What the run has made of each job at the horizon. */
+void sim_fates(uint32_t mode, const uint8_t *tasks, const uint8_t *jobs, size_t jobs_len,
+               uint32_t horizon, struct sim_fate *fates);
 
 /* Writes a legal schedule: where a change is allowed, draw(n) < n picks among the n candidates. */
 void sim_draw(uint32_t mode, const uint8_t *tasks, const uint8_t *jobs, size_t jobs_len,

@@ -29,19 +29,19 @@
 
    The rules in short
    ------------------
-   A job that has arrived and is neither finished nor ended is past zero slack from arrival + Z on.
-   It then suspends every strictly less critical job. Of the jobs that are not suspended one of the
-   highest priority runs. In mode SE a job past zero slack that has run longer than C also ends, for
-   good, every strictly less critical job that has arrived and is neither finished nor ended. A claim
-   may settle ties among equal priorities in any way, but may change from one job to another only at
-   a scheduling instant: a job arrives, finishes or reaches arrival + Z or, in SE, the job that ran
-   has just reached C.
+   A job that has arrived and is neither finished nor ended is alive, and from arrival + Z on past
+   zero slack. It then suspends every strictly less critical job. Of the jobs alive that are not
+   suspended one of the highest priority runs. In mode SE a job past zero slack is over in a tick if
+   its ticks done before it, plus one if the job runs in it, exceed C. Every strictly less critical
+   job alive is then ended, for good, in that very tick. A claim may settle ties among equal
+   priorities in any way, but may change from one job to another only at a scheduling instant: a
+   job arrives, finishes or reaches arrival + Z or, in SE, the job that ran has just reached C.
 
    The pointers
    ------------
-   A list may stand at any address; none needs aligning. Where a length is 0 nothing is read, and
-   the pointer may be any but null: null must not be passed. No list may overlap another, and
-   nobody else may write to one during a call.
+   A list may stand at any address; none needs aligning. Where a length is 0 nothing is read or
+   written, and the pointer may be anything, null too: null and 0 say "no jobs". No list may overlap
+   another, and nobody else may write to one during a call.
 
    The stack
    ---------
@@ -82,7 +82,8 @@
 #include <stddef.h>
 #include <stdint.h>
 
-/* Modes: in SE a job past zero slack that has run longer than C ends the less critical ones. */
+/* Modes: in SE a job past zero slack whose ticks done, this tick among them if the job runs in it,
+   exceed C ends the less critical ones in this tick. */
 #define ZSRM_MODE_S 0u
 #define ZSRM_MODE_SE 1u
 

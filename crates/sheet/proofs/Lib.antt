@@ -5,4 +5,5 @@ pub mod Lines
 pub mod Runs
 pub mod Told
 pub mod Listings
+pub mod Readings
 pub mod Unique

@@ -1,7 +1,7 @@
 -- Laws of bytes written one part behind another, and of the listing's lines.
 use Prim.Native.Nat.{ℕ, suc, _+_, _*_, _-_, _≤_, _<_}
 use mathlib.Core.Path.{_≡_, refl, ap, _∙_}
-use mathlib.Core.List.{List, [], _∷_, _++_, append-assoc}
+use mathlib.Core.List.{List, [], _∷_, _++_, append-assoc, append-nil}
 use mathlib.Core.Bool.{Bool, true, false, cond}
 use native.Mathlib.Numerals.{add-one}
 use native.Mathlib.Omega.{arith}
@@ -9,6 +9,7 @@ use lib.ListN.{length, getD, take, drop, set, length-append, drop-of-length-le}
 use lib.Seq.{length-sets, drop-cons, take-suc}
 use lib.Dec.{eqb, lit≤}
 use borrow.Author.Tests.{eq-eqb, ne-eqb}
+use Rattle.bits.proofs.Bools.{by-cond}
 use Rattle.decimal.specs.declared.Written.{Written}
 use Rattle.decimal.specs.declared.Written.the-variants.{NoRoom, To}
 use Rattle.decimal.specs.Decimal.{after, decimal, size, writtenAt}
@@ -19,7 +20,7 @@ use Rattle.zsrm.specs.declared.record.Standing.{Standing}
 use Rattle.zsrm.specs.declared.record.Standing.the-variants.{NotArrived, Unfinished, Finished, Ended}
 use Rattle.zsrm.specs.declared.answers.Verdict.{Verdict}
 use Rattle.zsrm.specs.declared.answers.Verdict.the-variants as verdicts
-use Rattle.sheet.specs.Listing.{behindFirst, line, word, instant, verdictLine, letter, entry, refusedLine, runLine, stretch, stretchesFrom, stretches}
+use Rattle.sheet.specs.Listing.{behindFirst, line, word, instant, verdictLine, letter, entry, longest, longestFrom, refusedLine, runLine, stretch, stretchLines, stretches}
 use Rattle.sheet.specs.Wrote.{Wrote}
 use Rattle.sheet.proofs.Numbers.{sets-sets}
 
@@ -110,22 +111,22 @@ pub record Stretched (l : List ℕ) (at : ℕ) (sch : List ℕ) (m : List ℕ) (
   pub within : t ≤ length sch
   pub done : List ℕ
   pub wrote : Wrote l at done m k
-  pub rest : done ++ stretchesFrom first cur t (drop t sch) ≡ stretches sch
+  pub rest : done ++ stretchLines (longestFrom first cur t (drop t sch)) ≡ stretches sch
   pub few : length done + 33 ≤ 33 * t
 
 pub stretched-first : (l : List ℕ) (at : ℕ) (sch : List ℕ) → (length sch ≡ 0 → ⊥) → Stretched l at sch l 0 (getD sch 0 0) at 1
-unfolding stretches
+unfolding longest stretches
 stretched-first l at [] h = absurd (h refl)
 stretched-first l at (e ∷ es) h =
     record { begun = omega arith; within = omega arith; done = []; wrote = wrote-none l at; rest = refl; few = omega arith }
 
 module _ {l m sch : List ℕ} {at first cur k t : ℕ} (s : Stretched l at sch m first cur k t) (h : t < length sch) where
   pub stretched-same : getD sch t 0 ≡ cur → Stretched l at sch m first cur k (t + 1)
-  unfolding stretchesFrom
+  unfolding longestFrom
   stretched-same e =
       let b = s .begun in
       let f = s .few in
-      let r : stretchesFrom first cur t (drop t sch) ≡ stretchesFrom first cur (t + 1) (drop (t + 1) sch) = rw (add-one, drop-cons sch t 0 h, eq-eqb _ _ e) in
+      let r : longestFrom first cur t (drop t sch) ≡ longestFrom first cur (t + 1) (drop (t + 1) sch) = rw (add-one, drop-cons sch t 0 h, eq-eqb _ _ e) in
       record {
         begun = omega arith;
         within = omega arith;
@@ -136,12 +137,12 @@ module _ {l m sch : List ℕ} {at first cur k t : ℕ} (s : Stretched l at sch m
       }
 
   pub stretched-new : {r : List ℕ} {j : ℕ} → (getD sch t 0 ≡ cur → ⊥) → Wrote m k (stretch first t cur) r j → Stretched l at sch r t (getD sch t 0) j (t + 1)
-  unfolding stretchesFrom
+  unfolding longestFrom stretchLines
   stretched-new {r} {j} ne w =
       let f = s .few in
       let d = s .done in
       let n = stretch-length first t cur in
-      let q : stretchesFrom first cur t (drop t sch) ≡ stretch first t cur ++ stretchesFrom t (getD sch t 0) (t + 1) (drop (t + 1) sch)
+      let q : stretchLines (longestFrom first cur t (drop t sch)) ≡ stretch first t cur ++ stretchLines (longestFrom t (getD sch t 0) (t + 1) (drop (t + 1) sch))
       = rw (add-one, drop-cons sch t 0 h, ne-eqb _ _ ne) in
       record {
         begun = omega arith;
@@ -155,13 +156,13 @@ module _ {l m sch : List ℕ} {at first cur k t : ℕ} (s : Stretched l at sch m
 pub stretched-end : {l m sch : List ℕ} {at first cur k t : ℕ} → Stretched l at sch m first cur k t → length sch ≤ t → {r : List ℕ} {j : ℕ}
     → Wrote m k (stretch first t cur) r j
     → Wrote l at (stretches sch) r j
-unfolding stretchesFrom
+unfolding longestFrom stretchLines
 stretched-end {l} {m} {sch} {at} {first} {cur} {k} {t} s h {r} {j} w =
-    let e : s .done ++ stretch first t cur ≡ stretches sch = rw (drop-of-length-le sch {i = t} h) at (s .rest) in
+    let e : s .done ++ stretch first t cur ≡ stretches sch = rw (drop-of-length-le sch {i = t} h, append-nil) at (s .rest) in
     rw (← e) (wrote-more (s .wrote) w)
 
 pub stretches-none : (l : List ℕ) (at : ℕ) (sch : List ℕ) → length sch ≡ 0 → Wrote l at (stretches sch) l at
-unfolding stretches
+unfolding longest stretchLines stretches
 stretches-none l at [] h = wrote-none l at
 stretches-none l at (e ∷ es) h = absurd (omega arith)
 
@@ -226,17 +227,15 @@ head-length S horizon = simp length-append (omega (arith, decimal-length horizon
 head-length SE horizon = simp length-append (omega (arith, decimal-length horizon))
 
 -- a line of at most 33 bytes for each stretch, and a tick at least for each
-from-length : (es : List ℕ) (first e t : ℕ) → length (stretchesFrom first e t es) ≤ 33 + 33 * length es
-unfolding stretchesFrom
-from-length [] first e t = omega (arith, stretch-length first t e)
-from-length (d ∷ es) first e t = by-test (eqb d e) (from-length es first e (suc t)) (from-length es t d (suc t))
-  where
-    by-test : (b : Bool) → length (stretchesFrom first e (suc t) es) ≤ 33 + 33 * length es → length (stretchesFrom t d (suc t) es) ≤ 33 + 33 * length es
-        → length (cond b (stretchesFrom first e (suc t) es) (stretch first t e ++ stretchesFrom t d (suc t) es)) ≤ 33 + 33 * suc (length es)
-    by-test true p q = omega arith
-    by-test false p q = simp length-append (omega (arith, stretch-length first t e))
+from-length : (es : List ℕ) (first e t : ℕ) → length (stretchLines (longestFrom first e t es)) ≤ 33 + 33 * length es
+unfolding longestFrom stretchLines
+from-length [] first e t = simp length-append (omega (arith, stretch-length first t e))
+from-length (d ∷ es) first e t =
+    by-cond (λ ss. length (stretchLines ss) ≤ 33 + 33 * suc (length es)) (eqb d e) _ _
+    (λ h. omega (arith, from-length es first e (suc t)))
+    (λ h. simp length-append (omega (arith, stretch-length first t e, from-length es t d (suc t))))
 
 pub stretches-length : (es : List ℕ) → length (stretches es) ≤ 33 * length es
-unfolding stretches
+unfolding longest stretchLines stretches
 stretches-length [] = omega arith
 stretches-length (e ∷ es) = omega (arith, from-length es 0 e 1)

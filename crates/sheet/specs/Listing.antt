@@ -49,20 +49,35 @@ runLine mode horizon = line (114 ∷ 117 ∷ 110 ∷ []) (letter mode ∷ decima
 unfoldable pub entry : ℕ → List ℕ
 entry e = cond (eqb e idle) dash (decimal e)
 
--- A stretch of equal entries: first tick, tick after the last, job or `-`.
+-- a stretch of equal entries: first tick, tick after the last, the entry
+pub record Stretch : Type 0 where
+  pub first : ℕ
+  pub next : ℕ
+  pub entry : ℕ
+
+-- the stretches from tick t on, where e has stood since tick `first`; the next entries are given
+unfoldable pub longestFrom : ℕ → ℕ → ℕ → List ℕ → List Stretch
+longestFrom first e t [] = record { first = first; next = t; entry = e } ∷ []
+longestFrom first e t (d ∷ ds) =
+    cond (eqb d e) (longestFrom first e (suc t) ds) (record { first = first; next = t; entry = e } ∷ longestFrom t d (suc t) ds)
+
+-- Each longest stretch of equal entries.
+unfoldable pub longest : List ℕ → List Stretch
+longest [] = []
+longest (e ∷ es) = longestFrom 0 e 1 es
+
+-- The line of a stretch: first tick, tick after the last, job or `-`.
 unfoldable pub stretch : ℕ → ℕ → ℕ → List ℕ
 stretch first next e = line (decimal first) (decimal next ∷ entry e ∷ [])
 
--- the stretches from tick t on, where e has stood since tick `first`; the next entries are given
-unfoldable pub stretchesFrom : ℕ → ℕ → ℕ → List ℕ → List ℕ
-stretchesFrom first e t [] = stretch first t e
-stretchesFrom first e t (d ∷ ds) =
-    cond (eqb d e) (stretchesFrom first e (suc t) ds) (stretch first t e ++ stretchesFrom t d (suc t) ds)
+-- a line for each
+unfoldable pub stretchLines : List Stretch → List ℕ
+stretchLines [] = []
+stretchLines (s ∷ ss) = stretch (s .first) (s .next) (s .entry) ++ stretchLines ss
 
--- Each longest stretch of equal entries.
+-- the lines of the longest stretches of given entries
 unfoldable pub stretches : List ℕ → List ℕ
-stretches [] = []
-stretches (e ∷ es) = stretchesFrom 0 e 1 es
+stretches es = stretchLines (longest es)
 
 -- the words `met`, `late`, `ended`, `open`; the verdict on a job of the list is no refusal
 unfoldable pub word : Verdict → List ℕ

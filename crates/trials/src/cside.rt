@@ -22,6 +22,9 @@ use crate::print::text;
 use crate::tally::DIFFERENCES;
 use crate::tally::Tally;
 
+// The most entries that the bytes of a schedule have room for; a longer schedule is not handed over.
+pub(crate) const C_ROOM: usize = 512;
+
 // A list as bytes, least first; past its end there are more, for byte counts that are too large.
 struct Bytes {
     at: [u8; 1040],

@@ -24,7 +24,7 @@ pub(crate) fn entry_of(x: usize) -> u16 {
 pub(crate) fn fill(line: Line, from: u32, to: u32, entry: u16) -> Line {
     let mut next = line;
     for t in from..to {
-        if t < 512 {
+        if t < 16384 {
             let i = t as usize;
             next.at[i] = entry;
         }

@@ -1,5 +1,6 @@
 // The groups of trials: so many inputs of a kind in a mode, each numbered, the number being the seed of all that is drawn for it.
 use crate::altered::altered;
+use crate::altered::many_altered;
 use crate::claims::try_verdicts;
 use crate::cside::Handed;
 use crate::cside::c_refusal;
@@ -28,6 +29,7 @@ use crate::runs::expected;
 use crate::runs::try_run;
 use crate::steps::try_step;
 use crate::tables::large;
+use crate::tables::long;
 use crate::tables::small;
 use crate::tally::DIFFERENCES;
 use crate::tally::INPUTS;
@@ -50,8 +52,13 @@ const ALTERED: u32 = 4;
 
 const FROM_C: u32 = 5;
 
-// A record of a run, with one change.
+const LONG: u32 = 6;
+
+const MANY_ALTERED: u32 = 7;
+
+// A record of a run, with one change or with many.
 fn record_trial(
+    kind: u32,
     t: Tally,
     inp: Input,
     tasks: &[u32],
@@ -62,7 +69,11 @@ fn record_trial(
     let ran = try_run(t, inp, tasks, jobs, want);
     let before = ran.record;
     let after_run = ran.t;
-    let rec = altered(before, trial, ((jobs.len() / 3) % 64) as u32);
+    let rec = if kind == ALTERED {
+        altered(before, trial, ((jobs.len() / 3) % 64) as u32)
+    } else {
+        many_altered(before, trial, inp.se, jobs)
+    };
     let step = try_step(after_run, inp, tasks, jobs, rec);
     let verdicts = try_verdicts(step, inp, tasks, jobs, rec);
     if t.get(DIFFERENCES) < verdicts.get(DIFFERENCES) {
@@ -120,6 +131,9 @@ fn input_of(kind: u32, trial: u32, se: bool) -> Input {
     if kind == LARGE {
         return large(trial, se);
     }
+    if kind == LONG {
+        return long(trial, se);
+    }
     let whole = small(trial, se);
     if kind == DAMAGED {
         return damaged(whole, trial, 20000);
@@ -142,8 +156,11 @@ fn trial_on(kind: u32, t: Tally, inp: Input, tasks: &[u32], jobs: &[u32], trial:
     if kind == LARGE {
         return try_whole(t, inp, tasks, jobs, want, trial, 9);
     }
-    if kind == ALTERED {
-        return record_trial(t, inp, tasks, jobs, want, trial);
+    if kind == LONG {
+        return try_whole(t, inp, tasks, jobs, want, trial, 25);
+    }
+    if (kind == ALTERED) | (kind == MANY_ALTERED) {
+        return record_trial(kind, t, inp, tasks, jobs, want, trial);
     }
     if kind == FROM_C {
         c_trial(t, inp, tasks, jobs, want, trial)
@@ -200,8 +217,8 @@ fn c_group(name: &[u8], se: bool, n: u32) -> Tally {
     t
 }
 
-fn record_group(name: &[u8], se: bool, n: u32) -> Tally {
-    let t = trials(ALTERED, se, n);
+fn record_group(name: &[u8], kind: u32, se: bool, n: u32) -> Tally {
+    let t = trials(kind, se, n);
     head(name, t);
     records(t, se);
     t
@@ -211,7 +228,9 @@ fn good_groups() -> Tally {
     let a = good_group(b"small S", SMALL, false, 1000);
     let b = a.with(good_group(b"small SE", SMALL, true, 1500));
     let c = b.with(good_group(b"large S", LARGE, false, 20));
-    c.with(good_group(b"large SE", LARGE, true, 30))
+    let d = c.with(good_group(b"large SE", LARGE, true, 30));
+    let e = d.with(good_group(b"long S", LONG, false, 5));
+    e.with(good_group(b"long SE", LONG, true, 7))
 }
 
 fn damaged_groups() -> Tally {
@@ -224,8 +243,10 @@ fn damaged_groups() -> Tally {
 }
 
 fn record_groups() -> Tally {
-    let a = record_group(b"altered records S", false, 500);
-    a.with(record_group(b"altered records SE", true, 500))
+    let a = record_group(b"altered records S", ALTERED, false, 500);
+    let b = a.with(record_group(b"altered records SE", ALTERED, true, 500));
+    let c = b.with(record_group(b"records altered all over S", MANY_ALTERED, false, 800));
+    c.with(record_group(b"records altered all over SE", MANY_ALTERED, true, 1200))
 }
 
 // Every group, and the sum of them all.

@@ -172,18 +172,6 @@ pub(crate) fn other_choice(s: Sim, tasks: &[u32], jobs: &[u32]) -> usize {
     last
 }
 
-// Whether a job of a priority may run.
-fn waits(s: Sim, tasks: &[u32], jobs: &[u32], bar: u64, priority: u32) -> bool {
-    for j in 0..64 {
-        if stands(tasks, jobs, j, s.fate[j], s.now, bar) == 2 {
-            if of(tasks, jobs, j, PRIORITY) == priority {
-                return true;
-            }
-        }
-    }
-    false
-}
-
 // The priorities of the jobs that may run, as bits, and how many they are.
 pub(crate) struct Ready {
     pub word: u64,
@@ -194,11 +182,13 @@ pub(crate) fn ready_now(s: Sim, tasks: &[u32], jobs: &[u32]) -> Ready {
     let high = bar(s, tasks, jobs);
     let mut word: u64 = 0;
     let mut ones: u32 = 0;
-    for p in 0..64 {
-        word = word << 1;
-        if waits(s, tasks, jobs, high, 63 - p) {
-            word = word | 1;
-            ones = ones % 64 + 1;
+    for j in 0..64 {
+        if stands(tasks, jobs, j, s.fate[j], s.now, high) == 2 {
+            let p = of(tasks, jobs, j, PRIORITY) % 64;
+            if (word >> p) % 2 == 0 {
+                word = word | (1 << p);
+                ones = ones % 64 + 1;
+            }
         }
     }
     Ready { word, ones }

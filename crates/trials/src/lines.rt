@@ -7,7 +7,7 @@ use crate::list::Line;
 
 fn with_entry(line: Line, t: u32, entry: u16) -> Line {
     let mut next = line;
-    if t < 512 {
+    if t < 16384 {
         let i = t as usize;
         next.at[i] = entry;
     }
@@ -15,7 +15,7 @@ fn with_entry(line: Line, t: u32, entry: u16) -> Line {
 }
 
 fn entry_in(line: Line, t: u32) -> u16 {
-    if t < 512 {
+    if t < 16384 {
         let i = t as usize;
         line.at[i]
     } else {
@@ -26,7 +26,7 @@ fn entry_in(line: Line, t: u32) -> u16 {
 // Two numbers exchanged from a tick on.
 fn exchanged(line: Line, from: u32, a: u16, b: u16) -> Line {
     let mut next = line;
-    for t in from..512 {
+    for t in from..16384 {
         let i = t as usize;
         let entry = line.at[i];
         if entry == a {

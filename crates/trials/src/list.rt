@@ -9,7 +9,7 @@ pub(crate) struct List {
 
 // A schedule, with room for the longest horizon that is run.
 pub(crate) struct Line {
-    pub at: [u16; 512],
+    pub at: [u16; 16384],
 }
 
 // What stands in a schedule before a call.
@@ -46,7 +46,7 @@ pub(crate) fn no_list() -> List {
 }
 
 pub(crate) fn no_line() -> Line {
-    Line { at: [KEPT; 512] }
+    Line { at: [KEPT; 16384] }
 }
 
 impl List {

@@ -17,6 +17,8 @@ use crate::tally::JOBS_ENDED;
 use crate::tally::JOBS_LATE;
 use crate::tally::JOBS_MET;
 use crate::tally::JOBS_OPEN;
+use crate::tally::LATE_TURNS;
+use crate::tally::LONGEST_RUNS;
 use crate::tally::NO_TICKS;
 use crate::tally::OTHER_RUNS;
 use crate::tally::PARTS_EMPTY;
@@ -45,7 +47,16 @@ pub(crate) fn runs(t: Tally, se: bool) {
     if se {
         count(b", ending a job ", t.get(ENDING_STEPS));
     }
+    if 0 < t.get(LONGEST_RUNS) {
+        long_runs(t);
+    }
     verdicts(t, se);
+}
+
+fn long_runs(t: Tally) {
+    count(b"\n  runs of 16384 ticks ", t.get(LONGEST_RUNS));
+    count(b", turns past 12288 ", t.get(LATE_TURNS));
+    count(b"; refused 12: ", t.get(FIRST_REFUSAL + 12));
 }
 
 fn verdicts(t: Tally, se: bool) {

@@ -73,7 +73,7 @@ pub(crate) fn yes(test: bool) -> u64 {
 // How many entries are not as they must be.
 pub(crate) fn unlike(got: &[u16], want: Line) -> u64 {
     let mut n: u64 = 0;
-    for i in 0..512 {
+    for i in 0..16384 {
         if entry_at(got, i) != want.at[i] {
             n = n % 65536 + 1;
         }

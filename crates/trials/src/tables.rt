@@ -1,4 +1,5 @@
-// Task tables and job lists that are good: short, with many ties, overloads, and instants that coincide.
+// Task tables and job lists that are good: mostly short, with many ties, overloads, and instants that coincide; a few as long as is
+// allowed.
 ghost use Prim.Native.Nat.{_<_};
 use crate::draw::draw;
 use crate::draw::rarely;
@@ -41,21 +42,27 @@ fn offset(trial: u32, place: u32, d: u32) -> u32
     }
 }
 
-// A task's times lie in a range that is drawn for the trial, up to the most that is allowed.
-fn add_task(tasks: List, trial: u32, k: u32) -> List {
+// How long a trial's times are: the least period, the range of times, the widest gap before an arrival, the longest horizon.
+struct Scale {
+    period: u32,
+    range: u32,
+    gap: u32,
+    horizon: u32,
+}
+
+fn add_task(tasks: List, trial: u32, k: u32, scale: Scale) -> List {
     let place = 1000 + 32 * (k % 64);
-    let range = 3 + draw(trial, 1, 20);
     let t = pick(
         rarely(trial, place, 40),
         16384,
-        1 + draw(trial, place + 1, range),
+        scale.period % 65536 + draw(trial, place + 1, scale.range),
     );
     let d = pick(
         rarely(trial, place + 2, 2),
         t,
         1 + draw(trial, place + 3, t),
     );
-    let co = 1 + draw(trial, place + 4, smaller(range, 16384));
+    let co = 1 + draw(trial, place + 4, scale.range);
     let c = pick(
         rarely(trial, place + 5, 3),
         co,
@@ -74,10 +81,10 @@ fn add_task(tasks: List, trial: u32, k: u32) -> List {
         .push(z)
 }
 
-fn make_tasks(trial: u32, count: u32) -> List {
+fn make_tasks(trial: u32, count: u32, scale: Scale) -> List {
     let mut tasks = no_list();
     for k in 0..count {
-        tasks = add_task(tasks, trial, k);
+        tasks = add_task(tasks, trial, k, scale);
     }
     tasks
 }
@@ -128,16 +135,17 @@ fn larger(a: u32, b: u32) -> u32 {
     if a < b { b } else { a }
 }
 
-fn add_job(m: Making, tasks: List, trial: u32, j: u32, count: u32) -> Making {
+fn add_job(m: Making, tasks: List, trial: u32, j: u32, count: u32, gap: u32) -> Making {
     let place = 6000 + 8 * (j % 128);
     let k = first_task(m, trial, j, count) % 16;
     let row = 7 * (k as usize);
-    let late = draw(trial, place + 1, pick(rarely(trial, place, 3), 6, 1));
+    let late = draw(trial, place + 1, pick(rarely(trial, place, 3), gap, 1));
     let i = k as usize;
-    let arrival = larger(m.last, m.soonest[i]) % 65536 + late;
-    if 16384 < arrival {
+    let first = larger(m.last, m.soonest[i]) % 65536;
+    if 16384 < first {
         return m;
     }
+    let arrival = smaller(first + late, 16384) % 65536;
     let c = work(
         trial,
         place + 2,
@@ -153,7 +161,7 @@ fn add_job(m: Making, tasks: List, trial: u32, j: u32, count: u32) -> Making {
     next
 }
 
-fn make_jobs(tasks: List, trial: u32, count: u32, jobs: u32) -> Making {
+fn make_jobs(tasks: List, trial: u32, count: u32, jobs: u32, gap: u32) -> Making {
     let list = no_list();
     let mut m = Making {
         jobs: list,
@@ -162,28 +170,28 @@ fn make_jobs(tasks: List, trial: u32, count: u32, jobs: u32) -> Making {
         soonest: [0; 16],
     };
     for j in 0..jobs {
-        m = add_job(m, tasks, trial, j, count);
+        m = add_job(m, tasks, trial, j, count, gap);
     }
     m
 }
 
 // A horizon that lets the jobs finish, or cuts some off, or is 0.
-fn horizon(trial: u32, last: u32, work: u32) -> u32 {
+fn horizon(trial: u32, last: u32, work: u32, most: u32) -> u32 {
     let kind = draw(trial, 5, 12);
     if kind == 0 {
         return 0;
     }
     if kind < 4 {
-        return smaller(1 + draw(trial, 6, last % 65536 + 1), 500);
+        return smaller(1 + draw(trial, 6, last % 65536 + 1), most);
     }
-    smaller(last % 65536 + draw(trial, 7, work % 65536 + 8), 500)
+    smaller(last % 65536 + draw(trial, 7, work % 65536 + 8), most)
 }
 
-fn make_input(trial: u32, se: bool, count: u32, most: u32) -> Input {
-    let tasks = make_tasks(trial, count);
-    let made = make_jobs(tasks, trial, count, most);
+fn make_input(trial: u32, se: bool, count: u32, most: u32, scale: Scale) -> Input {
+    let tasks = make_tasks(trial, count, scale);
+    let made = make_jobs(tasks, trial, count, most, scale.gap);
     let jobs = made.jobs;
-    let h = horizon(trial, made.last, made.work);
+    let h = horizon(trial, made.last, made.work, scale.horizon);
     Input {
         se,
         horizon: h,
@@ -194,12 +202,40 @@ fn make_input(trial: u32, se: bool, count: u32, most: u32) -> Input {
     }
 }
 
+fn short(trial: u32) -> Scale {
+    Scale {
+        period: 1,
+        range: 3 + draw(trial, 1, 20),
+        gap: 6,
+        horizon: 500,
+    }
+}
+
 // A small input: up to 5 tasks and 12 jobs.
 pub(crate) fn small(trial: u32, se: bool) -> Input {
-    make_input(trial, se, 1 + draw(trial, 8, 5), draw(trial, 9, 13))
+    let scale = short(trial);
+    make_input(trial, se, 1 + draw(trial, 8, 5), draw(trial, 9, 13), scale)
 }
 
 // The most that is allowed: 16 tasks and 64 jobs.
 pub(crate) fn large(trial: u32, se: bool) -> Input {
-    make_input(trial, se, 16, 64)
+    let scale = short(trial);
+    make_input(trial, se, 16, 64, scale)
+}
+
+// A long input: up to 5 tasks and up to 40 jobs, whose times spread over the longest horizon that is allowed. Every other one has just that
+// horizon.
+pub(crate) fn long(trial: u32, se: bool) -> Input {
+    let scale = Scale {
+        period: 900,
+        range: 500 + draw(trial, 1, 1500),
+        gap: 900,
+        horizon: 16384,
+    };
+    let mut inp = make_input(trial, se, 3 + draw(trial, 8, 3), 40, scale);
+    if trial % 2 == 0 {
+        inp.horizon = 16384;
+        inp.room = 16384;
+    }
+    inp
 }

@@ -63,6 +63,11 @@ pub(crate) const OTHER_RUNS: usize = 20;
 pub(crate) const C_LEGAL: usize = 21;
 
 pub(crate) const C_NOT_LEGAL: usize = 22;
+
+pub(crate) const LONGEST_RUNS: usize = 54;
+
+pub(crate) const LATE_TURNS: usize = 55;
+
 // Claims of kind k are counted at FIRST_KIND + 2 k where they are legal, and after it where they are not.
 pub(crate) const FIRST_KIND: usize = 24;
 

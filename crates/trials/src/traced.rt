@@ -52,7 +52,7 @@ fn entry_drawn(byte: u8) -> u16 {
 
 fn drawn(picture: &[u8]) -> Line {
     let mut line = no_line();
-    for i in 0..512 {
+    for i in 0..16384 {
         if i < picture.len() {
             line.at[i] = entry_drawn(letter(picture, i));
         }
@@ -63,7 +63,7 @@ fn drawn(picture: &[u8]) -> Line {
 // How often a job stands in a picture.
 fn times(picture: &[u8], j: usize) -> u32 {
     let mut n: u32 = 0;
-    for i in 0..512 {
+    for i in 0..16384 {
         if entry_drawn(letter(picture, i)) as usize == j {
             n = n % 65536 + 1;
         }

@@ -2,12 +2,14 @@
 use crate::claims::try_claim;
 use crate::claims::try_verdict;
 use crate::claims::try_verdicts;
+use crate::cside::C_ROOM;
 use crate::cside::plain;
 use crate::cside::try_c_claim;
 use crate::cside::try_c_run;
 use crate::flight::fly;
 use crate::lines::changed;
 use crate::list::IDLE;
+use crate::list::KEPT;
 use crate::list::Line;
 use crate::list::front_of_line;
 use crate::print::Input;
@@ -23,28 +25,41 @@ use crate::tally::CLAIM_NOT_LEGAL;
 use crate::tally::FIRST_KIND;
 use crate::tally::IDLE_TICKS;
 use crate::tally::KINDS;
+use crate::tally::LATE_TURNS;
+use crate::tally::LONGEST_RUNS;
 use crate::tally::NO_TICKS;
 use crate::tally::OTHER_RUNS;
 use crate::tally::Tally;
 use zsrm::Record;
 
+// The idle and the busy ticks of a run, and how often another entry follows in the last 4,096 of 16,384 ticks.
 fn count_ticks(t: Tally, line: Line, horizon: u32) -> Tally {
     let mut idle: u32 = 0;
     let mut busy: u32 = 0;
-    for i in 0..512 {
+    let mut turns: u32 = 0;
+    let mut last = KEPT;
+    for i in 0..16384 {
         if i < horizon {
             let k = i as usize;
-            if line.at[k] == IDLE {
+            let entry = line.at[k];
+            if entry == IDLE {
                 idle = idle % 65536 + 1;
             } else {
                 busy = busy % 65536 + 1;
             }
+            if (12288 <= i) & (last != entry) {
+                turns = turns % 65536 + 1;
+            }
+            last = entry;
         }
     }
     let none = if horizon == 0 { 1 } else { 0 };
+    let longest = if horizon == 16384 { 1 } else { 0 };
     t.more(IDLE_TICKS, idle)
         .more(BUSY_TICKS, busy)
         .more(NO_TICKS, none)
+        .more(LONGEST_RUNS, longest)
+        .more(LATE_TURNS, turns)
 }
 
 // The schedule of a kind: one change of our run, our run itself, or the run that takes the last of equals.
@@ -81,7 +96,16 @@ fn try_kind(
     let legal = grown(tried.get(CLAIM_LEGAL), t.get(CLAIM_LEGAL));
     let not_legal = grown(tried.get(CLAIM_NOT_LEGAL), t.get(CLAIM_NOT_LEGAL));
     let counted = tried.more(own, legal).more(own + 1, not_legal);
-    try_c_claim(counted, inp, tasks, jobs, plain(inp), line)
+    if inp.room <= C_ROOM {
+        try_c_claim(counted, inp, tasks, jobs, plain(inp), line)
+    } else {
+        counted
+    }
+}
+
+// All kinds; on a long run, where a claim costs most, one change and the two unchanged.
+fn wanted(kind: u32, trial: u32, horizon: u32) -> bool {
+    (horizon <= 500) | (5 < kind) | (kind == trial % 6)
 }
 
 fn try_kinds(
@@ -95,10 +119,12 @@ fn try_kinds(
 ) -> Tally {
     let mut now = t;
     for kind in 0..KINDS {
-        let line = claimed(inp, tasks, jobs, own, kind, trial);
-        now = try_kind(now, inp, tasks, jobs, line, kind, every);
-        if (kind == 7) & (0 < unlike_lines(line, own)) {
-            now = now.plus(OTHER_RUNS);
+        if wanted(kind, trial, inp.horizon) {
+            let line = claimed(inp, tasks, jobs, own, kind, trial);
+            now = try_kind(now, inp, tasks, jobs, line, kind, every);
+            if (kind == 7) & (0 < unlike_lines(line, own)) {
+                now = now.plus(OTHER_RUNS);
+            }
         }
     }
     now
@@ -128,8 +154,13 @@ pub(crate) fn try_whole(
     let start = fresh_of(rec, tasks, jobs);
     let steps = try_steps(fresh, inp, tasks, jobs, start);
     let verdicts = try_verdicts(steps, inp, tasks, jobs, rec);
-    let kinds = try_kinds(verdicts, inp, tasks, jobs, own, trial, every);
-    try_c_run(kinds, inp, tasks, jobs, plain(inp), own)
+    let after = try_step(verdicts, inp, tasks, jobs, rec);
+    let kinds = try_kinds(after, inp, tasks, jobs, own, trial, every);
+    if inp.room <= C_ROOM {
+        try_c_run(kinds, inp, tasks, jobs, plain(inp), own)
+    } else {
+        kinds
+    }
 }
 
 // An input that may be refused, through every call, from any record.

@@ -20,4 +20,5 @@ pub mod Bytes
 pub mod Small
 pub mod Said
 pub mod Answers
+pub mod Exactly
 pub mod Promises

@@ -1,106 +1,217 @@
 -- The promises, for every input, either mode, and every legal schedule, ours and any other. Read this file first.
 --
--- `claimAnswer g horizon schedule` is what the claim check answers, `runAnswer` and `runSchedule` what our run does: each `..Answer`, and for
--- the calls from C each `..Result`, is the whole contract of its function in src/. `..Said` says an answer in document 01's numbers,
--- 0 ∷ [] being "done", "legal", "met" and "accepted". `recordBefore g schedule t` is the record before
--- tick t of the schedule, and `replayed g schedule` the one at its end. All of them are definitions of specs/. Laws/Promises has
--- `topmost-example`, a table that meets the premise of (ii).
-use Prim.Native.Nat.{_+_, _-_, _<_, ℕ, _≤_}
+-- `claimAnswer g horizon schedule` is what the claim check answers: each `..Answer`, and for the calls from C each `..Result`, is the whole
+-- contract of its function in src/, which takes any input and returns; with `runSchedule` and `runBytes` for what a run writes. `checkLists`,
+-- `checkStep`, `checkSchedule`, `checkVerdict` and `checkWitness` are the checks of each entry point, in the order of their numbers.
+-- `..Said` says an answer in numbers, and Said gives each its name: `done`, `refused number place`, `legal`, `notLegal t`, `met`, `late`,
+-- `ended`, `accepted`, `notMissed`, `finishedAt f`, `endedIn e`. `recordBefore g schedule t` is the record before tick t of the schedule,
+-- and `replayed g schedule` the one at its end. All of them are definitions of specs/. Laws/Promises has `topmost-example`, a table that
+-- meets the premise of (ii).
+use Prim.Native.Nat.{_*_, _+_, _-_, _<_, ℕ, _≤_}
 use mathlib.Core.Bool.{true}
-use mathlib.Core.List.{List, [], _∷_}
+use mathlib.Core.List.{List}
 use mathlib.Core.Logic.{_↔_, _⊎_}
-use mathlib.Core.Path.{ap, subst, _∙_, _≡_}
+use mathlib.Core.Path.{ap, refl, subst, _∙_, _≡_}
 use native.Mathlib.Omega.{arith}
 use lib.ListN.{getD, length}
 use Rattle.zsrm.specs.declared.record.Record.{Record}
 use Rattle.zsrm.specs.declared.record.Standing.the-variants.{Ended, Finished}
-use Rattle.zsrm.specs.Answers.{claimAnswer, claimSaid, freshAnswer, outcomeSaid, responseAnswer, runAnswer, runSchedule, stepAnswer, stepsFrom, verdictAnswer, verdictSaid, witnessAnswer, witnessSaid}
-use Rattle.zsrm.specs.Bytes.{bytes2, claimResult, givenBytes, numbers2, runBytes, runResult}
+use Rattle.zsrm.specs.Answers.{checkSchedule, checkStep, checkVerdict, checkWitness, claimAnswer, freshAnswer, ran, refusedStep, responseAnswer, runAnswer, runSchedule, stepAnswer, stepped, stepsFrom, verdictAnswer, witnessAnswer}
+use Rattle.zsrm.specs.Bytes.{bytes2, checkBytes, claimResult, givenBytes, numbers2, runBytes, runResult}
 use Rattle.zsrm.specs.Legal.{claim}
 use Rattle.zsrm.specs.Record.{blank, consistent, fresh, standingAt}
+use Rattle.zsrm.specs.Refusals.{checkLists}
 use Rattle.zsrm.specs.Run.{recordBefore, replayed}
+use Rattle.zsrm.specs.Said.{accepted, claimSaid, done, ended, endedIn, finishedAt, late, legal, met, notLegal, notMissed, outcomeSaid, refused, standingSaid, unfinished, verdictSaid, witnessSaid}
 use Rattle.zsrm.specs.Tables.{Given, arrival, deadlineInstant, idle, jobCount, jobCriticality, taskOf, zeroSlackInstant}
 use Rattle.zsrm.specs.Topmost.{Topmost, assured}
+use Rattle.zsrm.specs.Verdict.{emptyPart}
 use Rattle.zsrm.proofs.Laws.Accepted.{few-jobs, job}
-use Rattle.zsrm.proofs.Laws.Answers.{is-legal, met-answer, run-claim, run-outcome, unless-done}
+use Rattle.zsrm.proofs.Laws.Answers.{is-legal, met-answer, run-claim, run-outcome}
 use Rattle.zsrm.proofs.Laws.Consistent.{advanced-consistent, fresh-consistent, pending-alive}
+use Rattle.zsrm.proofs.Laws.Exactly as exactly
 use Rattle.zsrm.proofs.Laws.Places.{tick-fresh}
-use Rattle.zsrm.proofs.Laws.Promises.{accepted-says, met-not-missed, missed-accepted, ran-consistent, ran-entry, ran-replayed, ran-step-done, ran-steps, run-checked, run-refused-keeps, shown-entries, shown-length}
+use Rattle.zsrm.proofs.Laws.Promises.{accepted-says, met-not-missed, missed-accepted, ran-consistent, ran-entry, ran-replayed, ran-step-done, ran-steps, run-checked, run-refused-keeps, shown-entries, shown-from, shown-length}
 use Rattle.zsrm.proofs.Laws.Replay.{kept-at, legal-at, legal-dispatch, replayed-is, tick-recordBefore}
-use Rattle.zsrm.proofs.Laws.Small.{c-claim-zero, c-run-zero}
+use Rattle.zsrm.proofs.Laws.Said.{standing-said}
+use Rattle.zsrm.proofs.Laws.Small as called
+use Rattle.zsrm.proofs.Laws.Small.{c-refused-both, c-run-claim, c-run-kept, c-run-zero}
 use Rattle.zsrm.proofs.Laws.Tick.{dispatch-serves, past-of}
 use Rattle.zsrm.proofs.Laws.Topmost.{assured-in-time, topmost-finished}
+use Rattle.zsrm.proofs.Readings.{LeastIllegal, LegalAt}
 
--- Our run, where it is done.
-module _ (g : Given) (horizon : ℕ) (lent : List ℕ) (done : outcomeSaid (runAnswer g horizon lent .outcome) ≡ 0 ∷ []) where
-  -- Its schedule is legal: the claim check answers legal on what it wrote.
-  pub run-is-legal : claimSaid (claimAnswer g horizon (runSchedule g horizon lent)) ≡ 0 ∷ []
-  unfolding claimSaid
-  run-is-legal = ap claimSaid (run-claim g horizon lent (run-checked g horizon lent done))
+-- ## Demand 1: bad input gets exactly the refusal that the checks name, and the caller's lists then hold what they held
 
-  -- The record it returns is the one at that schedule's end ..
-  pub run-record : runAnswer g horizon lent .«record» ≡ replayed g (runSchedule g horizon lent)
-  run-record = ran-replayed g horizon lent (run-checked g horizon lent done)
+-- What the checks of an entry point say is what it answers, where they refuse; a fresh record, a step and a run say no more than that.
+pub fresh-checked : (tasks jobs : List ℕ) → freshAnswer tasks jobs .outcome ≡ checkLists tasks jobs
+unfolding freshAnswer ran
+fresh-checked tasks jobs = refl
 
-  -- .. and is consistent.
-  pub run-consistent : consistent g (runAnswer g horizon lent .«record») ≡ true
-  run-consistent = ran-consistent g horizon lent (run-checked g horizon lent done)
+pub step-checked : (g : Given) (r : Record) → stepAnswer g r .outcome ≡ checkStep g r
+step-checked g r = exactly.step-checked g r
 
-  -- It is also what `step` gives, repeated from the fresh record as often as the horizon says (`stepsFrom g r n`: n times from r) ..
-  pub run-is-steps : runAnswer g horizon lent .«record» ≡ stepsFrom g (freshAnswer (g .tasks) (g .jobs) .«record») horizon
-  run-is-steps = ran-steps g horizon lent (run-checked g horizon lent done)
+pub run-checks : (g : Given) (horizon : ℕ) (lent : List ℕ) → runAnswer g horizon lent .outcome ≡ checkSchedule g horizon lent
+run-checks g horizon lent = run-outcome g horizon lent
 
-  -- .. where each of those steps is done, and gives the schedule's entry of its tick.
-  pub run-each-step : (t : ℕ) → t < horizon
-      → (outcomeSaid (stepAnswer g (stepsFrom g (freshAnswer (g .tasks) (g .jobs) .«record») t) .outcome) ≡ 0 ∷ [])
-      × (getD (runSchedule g horizon lent) t idle ≡ stepAnswer g (stepsFrom g (freshAnswer (g .tasks) (g .jobs) .«record») t) .entry)
-  run-each-step t l = let ok = run-checked g horizon lent done in (ran-step-done g horizon lent ok t l, ran-entry g horizon lent ok t l)
+pub claim-refused : (g : Given) (horizon : ℕ) (schedule : List ℕ) (number place : ℕ)
+    → claimSaid (claimAnswer g horizon schedule) ≡ refused number place ↔ outcomeSaid (checkSchedule g horizon schedule) ≡ refused number place
+claim-refused g horizon schedule number place = exactly.claim-refused g horizon schedule number place
+
+pub verdict-refused : (g : Given) (r : Record) (j number place : ℕ)
+    → verdictSaid (verdictAnswer g r j) ≡ refused number place ↔ outcomeSaid (checkVerdict g r j) ≡ refused number place
+verdict-refused g r j number place = exactly.verdict-refused g r j number place
+
+pub witness-refused : (g : Given) (horizon : ℕ) (schedule : List ℕ) (j number place : ℕ)
+    → witnessSaid (witnessAnswer g horizon schedule j) ≡ refused number place ↔ outcomeSaid (checkWitness g horizon schedule j) ≡ refused number place
+witness-refused g horizon schedule j number place = exactly.witness-refused g horizon schedule j number place
+
+-- What the witness check refuses has the empty part.
+pub response-refused : (g : Given) (horizon : ℕ) (schedule : List ℕ) (j number place : ℕ)
+    → outcomeSaid (checkWitness g horizon schedule j) ≡ refused number place → responseAnswer g horizon schedule j ≡ emptyPart
+response-refused g horizon schedule j number place says = exactly.response-refused g horizon schedule j number place says
+
+-- So has an illegal claim, and a job without a finishing instant.
+pub response-illegal : (g : Given) (horizon : ℕ) (schedule : List ℕ) (j t : ℕ) → claimSaid (claimAnswer g horizon schedule) ≡ notLegal t
+    → responseAnswer g horizon schedule j ≡ emptyPart
+response-illegal g horizon schedule j t says = exactly.response-illegal g horizon schedule j t says
+
+pub response-unfinished : (g : Given) (horizon : ℕ) (schedule : List ℕ) (j : ℕ) → ((f : ℕ) → standingSaid (standingAt (replayed g schedule) j) ≡ finishedAt f → ⊥)
+    → responseAnswer g horizon schedule j ≡ emptyPart
+response-unfinished g horizon schedule j never = exactly.response-unfinished g horizon schedule j never
+
+-- Where a fresh record is refused, it is blank; else it is the fresh record of the jobs.
+pub fresh-refused : (tasks jobs : List ℕ) (number place : ℕ) → outcomeSaid (freshAnswer tasks jobs .outcome) ≡ refused number place
+    → freshAnswer tasks jobs .«record» ≡ blank
+fresh-refused tasks jobs number place says = exactly.fresh-refused tasks jobs number place says
+
+pub fresh-done : (tasks jobs : List ℕ) → outcomeSaid (freshAnswer tasks jobs .outcome) ≡ done → freshAnswer tasks jobs .«record» ≡ fresh jobs
+fresh-done tasks jobs ok = exactly.fresh-done tasks jobs ok
 
 -- Where our run is refused, the lent list keeps what it held and the record is blank.
-pub refused-keeps : (g : Given) (horizon : ℕ) (lent : List ℕ) (number place : ℕ) → outcomeSaid (runAnswer g horizon lent .outcome) ≡ number ∷ place ∷ []
+pub refused-keeps : (g : Given) (horizon : ℕ) (lent : List ℕ) (number place : ℕ) → outcomeSaid (runAnswer g horizon lent .outcome) ≡ refused number place
     → (runSchedule g horizon lent ≡ lent) × (runAnswer g horizon lent .«record» ≡ blank)
 refused-keeps g horizon lent number place says = run-refused-keeps g horizon lent number place says
 
--- The calls from C: a result of 0 is "done" and "legal" of the lists that the bytes spell, and the bytes then written are our run's.
+-- Where a step is refused, its record is blank and every other number in it is 0 (`refusedStep`).
+pub refused-step : (g : Given) (r : Record) (number place : ℕ) → outcomeSaid (stepAnswer g r .outcome) ≡ refused number place
+    → (stepAnswer g r .«record» ≡ blank) × (stepAnswer g r ≡ refusedStep number place)
+refused-step g r number place says = exactly.step-blank g r number place says
+
+-- Both calls from C are refused exactly where the checks of their bytes refuse, with the number plus 256 times the place.
+pub c-refused : (mode : ℕ) (tasks jobs : List ℕ) (horizon : ℕ) (bytes : List ℕ) (number place : ℕ) → outcomeSaid (checkBytes mode tasks jobs horizon bytes) ≡ refused number place
+    → (runResult mode tasks jobs horizon bytes ≡ number + 256 * place) × (claimResult mode tasks jobs horizon bytes ≡ number + 256 * place)
+c-refused = c-refused-both
+
+-- Where a run from C is refused, the schedule's bytes stay as they were.
+pub c-refused-keeps : (mode : ℕ) (tasks jobs : List ℕ) (horizon : ℕ) (bytes : List ℕ) → (runResult mode tasks jobs horizon bytes ≡ 0 → ⊥)
+    → runBytes mode tasks jobs horizon bytes ≡ bytes
+c-refused-keeps = c-run-kept
+
+-- ## Demand 2: ticks, claims and witnesses are those of the rules
+
+-- A step that is done is the tick of the rules (`stepped`).
+pub step-is-tick : (g : Given) (r : Record) → outcomeSaid (stepAnswer g r .outcome) ≡ done → stepAnswer g r ≡ stepped g r
+step-is-tick g r ok = exactly.step-done g r ok
+
+-- Our run, where it is done.
+module _ (g : Given) (horizon : ℕ) (lent : List ℕ) (ok : outcomeSaid (runAnswer g horizon lent .outcome) ≡ done) where
+  -- Its schedule is legal: the claim check answers legal on what it wrote.
+  pub run-is-legal : claimSaid (claimAnswer g horizon (runSchedule g horizon lent)) ≡ legal
+  unfolding claimSaid
+  run-is-legal = ap claimSaid (run-claim g horizon lent (run-checked g horizon lent ok))
+
+  -- The record it returns is the one at that schedule's end ..
+  pub run-record : runAnswer g horizon lent .«record» ≡ replayed g (runSchedule g horizon lent)
+  run-record = ran-replayed g horizon lent (run-checked g horizon lent ok)
+
+  -- .. and is consistent.
+  pub run-consistent : consistent g (runAnswer g horizon lent .«record») ≡ true
+  run-consistent = ran-consistent g horizon lent (run-checked g horizon lent ok)
+
+  -- It is also what `step` gives, repeated from the fresh record as often as the horizon says (`stepsFrom g r n`: n times from r) ..
+  pub run-is-steps : runAnswer g horizon lent .«record» ≡ stepsFrom g (freshAnswer (g .tasks) (g .jobs) .«record») horizon
+  run-is-steps = ran-steps g horizon lent (run-checked g horizon lent ok)
+
+  -- .. where each of those steps is done, and gives the schedule's entry of its tick.
+  pub run-each-step : (t : ℕ) → t < horizon
+      → (outcomeSaid (stepAnswer g (stepsFrom g (freshAnswer (g .tasks) (g .jobs) .«record») t) .outcome) ≡ done)
+      × (getD (runSchedule g horizon lent) t idle ≡ stepAnswer g (stepsFrom g (freshAnswer (g .tasks) (g .jobs) .«record») t) .entry)
+  run-each-step t l = let c = run-checked g horizon lent ok in (ran-step-done g horizon lent c t l, ran-entry g horizon lent c t l)
+
+-- A claim is answered "legal" exactly when its input passes the checks and every one of its ticks is legal, earlier entries taken as
+-- given (`LegalAt` in Readings) ..
+module _ (g : Given) (horizon : ℕ) (schedule : List ℕ) where
+  pub legal-exactly : claimSaid (claimAnswer g horizon schedule) ≡ legal
+      ↔ (outcomeSaid (checkSchedule g horizon schedule) ≡ done) × ((t : ℕ) → t < horizon → LegalAt g schedule t)
+  legal-exactly = exactly.legal-exactly g horizon schedule
+
+  -- .. and "not legal at t" exactly when it passes them and t is the least of its ticks that is not legal.
+  pub not-legal-exactly : (t : ℕ) → claimSaid (claimAnswer g horizon schedule) ≡ notLegal t
+      ↔ (outcomeSaid (checkSchedule g horizon schedule) ≡ done) × LeastIllegal g schedule t
+  not-legal-exactly = exactly.not-legal-exactly g horizon schedule
+
+  -- A witness is accepted exactly when its schedule is legal and the named job is in the list and late or ended in it.
+  pub witness-exactly : (j : ℕ) → witnessSaid (witnessAnswer g horizon schedule j) ≡ accepted
+      ↔ (claimSaid (claimAnswer g horizon schedule) ≡ legal) × (j < jobCount (g .jobs))
+      × ((verdictSaid (verdictAnswer g (replayed g schedule) j) ≡ late) ⊎ (verdictSaid (verdictAnswer g (replayed g schedule) j) ≡ ended))
+  witness-exactly j = (accepted-says g horizon schedule j, λ w. missed-accepted g horizon schedule j (w .0) (w .1) (w .2))
+
+-- A verdict from a record that passes the checks: met exactly when the job finished by arrival + D, late when it finished later or is
+-- unfinished with the record's tick at or past that instant, ended when it was ended.
+module _ (g : Given) (r : Record) (j : ℕ) where
+  pub met-exactly : verdictSaid (verdictAnswer g r j) ≡ met
+      ↔ (outcomeSaid (checkVerdict g r j) ≡ done) × ((f : ℕ) × (standingSaid (standingAt r j) ≡ finishedAt f) × (f ≤ deadlineInstant g j))
+  met-exactly = exactly.met-exactly g r j
+
+  pub late-exactly : verdictSaid (verdictAnswer g r j) ≡ late
+      ↔ (outcomeSaid (checkVerdict g r j) ≡ done)
+      × (((f : ℕ) × (standingSaid (standingAt r j) ≡ finishedAt f) × (deadlineInstant g j < f))
+      ⊎ ((standingSaid (standingAt r j) ≡ unfinished) × (deadlineInstant g j ≤ r .tick)))
+  late-exactly = exactly.late-exactly g r j
+
+  pub ended-exactly : verdictSaid (verdictAnswer g r j) ≡ ended
+      ↔ (outcomeSaid (checkVerdict g r j) ≡ done) × ((e : ℕ) × (standingSaid (standingAt r j) ≡ endedIn e))
+  ended-exactly = exactly.ended-exactly g r j
+
+-- The calls from C, over the lists that the bytes spell: 0 is "done" of a run and "legal" of a claim, 65,536 + t is "not legal at t"; the
+-- bytes that a run then has written are our run's, and the claim check calls them legal.
 module _ (mode : ℕ) (tasks jobs : List ℕ) (horizon : ℕ) (bytes : List ℕ) where
   pub c-run-done : runResult mode tasks jobs horizon bytes ≡ 0
-      → (outcomeSaid (runAnswer (givenBytes mode tasks jobs) horizon (numbers2 bytes) .outcome) ≡ 0 ∷ [])
+      → (outcomeSaid (runAnswer (givenBytes mode tasks jobs) horizon (numbers2 bytes) .outcome) ≡ done)
       × (runBytes mode tasks jobs horizon bytes ≡ bytes2 (runSchedule (givenBytes mode tasks jobs) horizon (numbers2 bytes)))
   unfolding outcomeSaid
   c-run-done e = let w = c-run-zero mode tasks jobs horizon bytes e in (ap outcomeSaid (run-outcome _ horizon (numbers2 bytes) ∙ w .0), w .1)
 
-  pub c-claim-legal : claimResult mode tasks jobs horizon bytes ≡ 0 → claimSaid (claimAnswer (givenBytes mode tasks jobs) horizon (numbers2 bytes)) ≡ 0 ∷ []
-  unfolding claimSaid claimAnswer
-  c-claim-legal e = let w = c-claim-zero mode tasks jobs horizon bytes e in ap claimSaid (unless-done _ _ _ (w .0) ∙ w .1)
+  pub c-run-exactly : runResult mode tasks jobs horizon bytes ≡ 0 ↔ outcomeSaid (checkBytes mode tasks jobs horizon bytes) ≡ done
+  c-run-exactly = called.c-run-exactly mode tasks jobs horizon bytes
 
--- An accepted witness is exactly a legal schedule in which a job of the list is late (1) or ended (2).
-pub witness-exactly : (g : Given) (horizon : ℕ) (schedule : List ℕ) (j : ℕ) → witnessSaid (witnessAnswer g horizon schedule j) ≡ 0 ∷ []
-    ↔ (claimSaid (claimAnswer g horizon schedule) ≡ 0 ∷ []) × (j < jobCount (g .jobs))
-    × ((verdictSaid (verdictAnswer g (replayed g schedule) j) ≡ 1 ∷ []) ⊎ (verdictSaid (verdictAnswer g (replayed g schedule) j) ≡ 2 ∷ []))
-witness-exactly g horizon schedule j = (accepted-says g horizon schedule j, λ w. missed-accepted g horizon schedule j (w .0) (w .1) (w .2))
+  pub c-legal-exactly : claimResult mode tasks jobs horizon bytes ≡ 0
+      ↔ (outcomeSaid (checkBytes mode tasks jobs horizon bytes) ≡ done) × (claimSaid (claimAnswer (givenBytes mode tasks jobs) horizon (numbers2 bytes)) ≡ legal)
+  c-legal-exactly = called.c-legal-exactly mode tasks jobs horizon bytes
 
--- What follows is of any schedule that the claim check answers legal.
-module _ (g : Given) (horizon : ℕ) (schedule : List ℕ) (legal : claimSaid (claimAnswer g horizon schedule) ≡ 0 ∷ []) where
+  pub c-not-legal-exactly : (t : ℕ) → claimResult mode tasks jobs horizon bytes ≡ 65536 + t
+      ↔ (outcomeSaid (checkBytes mode tasks jobs horizon bytes) ≡ done) × (claimSaid (claimAnswer (givenBytes mode tasks jobs) horizon (numbers2 bytes)) ≡ notLegal t)
+  c-not-legal-exactly = called.c-not-legal-exactly mode tasks jobs horizon bytes
+
+  pub c-run-is-legal : runResult mode tasks jobs horizon bytes ≡ 0 → claimResult mode tasks jobs horizon (runBytes mode tasks jobs horizon bytes) ≡ 0
+  c-run-is-legal e = c-run-claim mode tasks jobs horizon bytes e
+
+-- ## Demand 3, of any schedule that the claim check answers legal
+
+module _ (g : Given) (horizon : ℕ) (schedule : List ℕ) (ok : claimSaid (claimAnswer g horizon schedule) ≡ legal) where
   -- The record before each of its ticks, and the one at its end, is consistent.
   pub always-consistent : (t : ℕ) → consistent g (recordBefore g schedule t) ≡ true
   unfolding claim recordBefore
   always-consistent t =
-      let c = is-legal g horizon schedule legal in
+      let c = is-legal g horizon schedule ok in
       let a = c .input in
       kept-at g 16384 (λ r. consistent g r ≡ true) (λ r p e b l s. advanced-consistent g r e b (legal-dispatch g r p e l) s) (fresh (g .jobs)) idle
       schedule (rw tick-fresh (omega arith)) (c .legal) (fresh-consistent g) t
 
-  -- The part that is shown of a job that finished at f is the schedule's entries from its arrival up to f.
-  pub part-shown : (j f : ℕ) → j < jobCount (g .jobs) → standingAt (replayed g schedule) j ≡ Finished f
-      → (length (responseAnswer g horizon schedule j) ≡ f - arrival (g .jobs) j)
-      × ((i : ℕ) → i < length (responseAnswer g horizon schedule j)
-      → getD (responseAnswer g horizon schedule j) i idle ≡ getD schedule (arrival (g .jobs) j + i) idle)
-  part-shown j f l q = (shown-length g horizon schedule legal j l f q, shown-entries g horizon schedule legal j l f q)
-
   -- A job that is neither finished nor ended at t.
   pub record Pending (t j : ℕ) : Type 0 where
-    pub not-finished : (f : ℕ) → standingAt (recordBefore g schedule t) j ≡ Finished f → ⊥
-    pub not-ended : (e : ℕ) → standingAt (recordBefore g schedule t) j ≡ Ended e → ⊥
+    pub not-finished : (f : ℕ) → standingSaid (standingAt (recordBefore g schedule t) j) ≡ finishedAt f → ⊥
+    pub not-ended : (e : ℕ) → standingSaid (standingAt (recordBefore g schedule t) j) ≡ endedIn e → ⊥
 
   -- The tick t is not idle, and does not go to a job less critical than j.
   pub record Served (t j : ℕ) : Type 0 where
@@ -110,13 +221,14 @@ module _ (g : Given) (horizon : ℕ) (schedule : List ℕ) (legal : claimSaid (c
 
   -- (i) From a job's zero-slack instant until it finishes or is ended, no tick is idle and none goes to a less critical job.
   pub served : (t j : ℕ) → t < horizon → j < jobCount (g .jobs) → zeroSlackInstant g j ≤ t → Pending t j → Served t j
-  unfolding claim recordBefore zeroSlackInstant
+  unfolding claim recordBefore zeroSlackInstant standingSaid
   served t j h l z wait =
-      let c = is-legal g horizon schedule legal in
+      let c = is-legal g horizon schedule ok in
       let a = c .input in
       let few = few-jobs (g .tasks) (g .jobs) (a .jobs) in
       let here : recordBefore g schedule t .tick ≡ t = tick-recordBefore g schedule t (omega arith) in
-      let lives = pending-alive g (recordBefore g schedule t) (always-consistent t) j l few (omega arith) (wait .not-finished) (wait .not-ended) in
+      let lives = pending-alive g (recordBefore g schedule t) (always-consistent t) j l few (omega arith)
+      (λ f q. wait .not-finished f (ap standingSaid q)) (λ e q. wait .not-ended e (ap standingSaid q)) in
       let w = dispatch-serves g (recordBefore g schedule t) (getD schedule t idle) j
       (legal-dispatch g (recordBefore g schedule t) _ (getD schedule t idle) (legal-at g (fresh (g .jobs)) idle schedule (c .legal) t (omega arith))) l
       (past-of g (recordBefore g schedule t) j lives (omega arith)) in
@@ -125,23 +237,39 @@ module _ (g : Given) (horizon : ℕ) (schedule : List ℕ) (legal : claimSaid (c
   -- (ii) If one task is strictly more critical than all others and its zero-slack offset plus overload time is within its deadline,
   -- each of its jobs finishes by arrival + offset + its own execution time, if the horizon reaches that far ..
   module _ (k : ℕ) (top : Topmost (g .tasks) k) (j : ℕ) (l : j < jobCount (g .jobs)) (its : taskOf (g .jobs) j ≡ k) where
-    pub finishes-by : assured g j ≤ horizon → (f : ℕ) × (standingAt (replayed g schedule) j ≡ Finished f) × (f ≤ assured g j)
-    finishes-by h =
-        let c = is-legal g horizon schedule legal in
+    finished : assured g j ≤ horizon → (f : ℕ) × (standingAt (replayed g schedule) j ≡ Finished f) × (f ≤ assured g j)
+    finished h =
+        let c = is-legal g horizon schedule ok in
         let a = c .input in
         topmost-finished g k (a .tasks) (a .jobs) top schedule (omega arith) (c .legal) j (record { job = l; its = its }) (omega arith)
 
+    pub finishes-by : assured g j ≤ horizon → (f : ℕ) × (standingSaid (standingAt (replayed g schedule) j) ≡ finishedAt f) × (f ≤ assured g j)
+    unfolding standingSaid
+    finishes-by h = let w = finished h in (w .0, ap standingSaid (w .1), w .2)
+
     -- .. and so is judged met, where its deadline lies within the horizon.
-    pub meets : deadlineInstant g j ≤ horizon → verdictSaid (verdictAnswer g (replayed g schedule) j) ≡ 0 ∷ []
+    pub meets : deadlineInstant g j ≤ horizon → verdictSaid (verdictAnswer g (replayed g schedule) j) ≡ met
     unfolding verdictSaid
     meets h =
-        let c = is-legal g horizon schedule legal in
+        let c = is-legal g horizon schedule ok in
         let a = c .input in
         let t = assured-in-time g k (a .jobs) top j l its in
-        let w = finishes-by (omega arith) in
+        let w = finished (omega arith) in
         let end : consistent g (replayed g schedule) ≡ true = subst (λ (r : Record). consistent g r ≡ true) (replayed-is g schedule horizon (a .whole)) (always-consistent horizon) in
         ap verdictSaid (met-answer g (a .lists) (replayed g schedule) end j l (w .0) (w .1) (omega (arith, w .2)))
 
-    -- So no witness is accepted against it: the answer is "not missed" (1).
-    pub never-blamed : deadlineInstant g j ≤ horizon → witnessSaid (witnessAnswer g horizon schedule j) ≡ 1 ∷ []
-    never-blamed h = met-not-missed g horizon schedule legal j l (meets h)
+    -- So no witness is accepted against it: the answer is "not missed".
+    pub never-blamed : deadlineInstant g j ≤ horizon → witnessSaid (witnessAnswer g horizon schedule j) ≡ notMissed
+    never-blamed h = met-not-missed g horizon schedule ok j l (meets h)
+
+  -- ## The part that is shown of a job that finished at f: the schedule's entries from its arrival up to f
+
+  pub part-shown : (j f : ℕ) → j < jobCount (g .jobs) → standingSaid (standingAt (replayed g schedule) j) ≡ finishedAt f
+      → (responseAnswer g horizon schedule j .from ≡ arrival (g .jobs) j)
+      × (length (responseAnswer g horizon schedule j .entries) ≡ f - arrival (g .jobs) j)
+      × ((i : ℕ) → i < length (responseAnswer g horizon schedule j .entries)
+      → getD (responseAnswer g horizon schedule j .entries) i idle ≡ getD schedule (arrival (g .jobs) j + i) idle)
+  unfolding standingSaid
+  part-shown j f l says =
+      let q = standing-said (standingAt (replayed g schedule) j) (Finished f) says in
+      (shown-from g horizon schedule ok j l f q, shown-length g horizon schedule ok j l f q, shown-entries g horizon schedule ok j l f q)

@@ -1,8 +1,9 @@
 -- Each contract leaves one answer, and one content of every lent list: `Learnt` is what a function's contract says of the arguments, the
 -- result and the parameters at exit. Lists that are lent to be read are the same at exit, so only those lent to be written are named.
-use mathlib.Core.Path.{sym, _∙_, _≡_}
+use Prim.Native.Nat.{ℕ}
+use mathlib.Core.Path.{ap₂, sym, _∙_, _≡_}
 use contract.Lifetimes.{Lfts}
-use denote.Ref.{now}
+use denote.Ref.{now, ptr}
 use Rattle.zsrm.proofs.c.zsrm_claim.Reads as zsrm-claim
 use Rattle.zsrm.proofs.c.zsrm_run.Reads as zsrm-run
 use Rattle.zsrm.proofs.claims.claim.Reads as claim
@@ -31,9 +32,10 @@ verdict-one κs a r s e f p q = p ∙ sym q
 pub witness-one : (κs : Lfts 3) (a : _) (r s : _) (e f : _) → witness.Learnt κs a r e → witness.Learnt κs a s f → r ≡ s
 witness-one κs a r s e f p q = p ∙ sym q
 
--- The part is a reference: its entries are one, its address is not in the contract.
-pub response-one : (κs : Lfts 3) (a : _) (r s : _) (e f : _) → response.Learnt κs a r e → response.Learnt κs a s f → now r ≡ now s
-response-one κs a r s e f p q = p ∙ sym q
+-- The part is a reference: it points to one place, and holds one content.
+pub response-one : (κs : Lfts 3) (a : _) (r s : _) (e f : _) → response.Learnt κs a r e → response.Learnt κs a s f → (ptr r ≡ ptr s) × (now r ≡ now s)
+response-one κs a r s e f p q =
+    (ap₂ (λ (x y : ℕ). (x, y)) (p .block ∙ sym (q .block)) (p .byte ∙ sym (q .byte)), p .holds ∙ sym (q .holds))
 
 pub zsrm-run-one : (κs : Lfts 3) (a : _) (r s : _) (e f : _) → zsrm-run.Learnt κs a r e → zsrm-run.Learnt κs a s f → (r ≡ s) × (now (e .1 .1 .1 .1 .0) ≡ now (f .1 .1 .1 .1 .0))
 zsrm-run-one κs a r s e f p q = (p .0 ∙ sym (q .0), p .1 ∙ sym (q .1))

@@ -1,7 +1,7 @@
 -- What each entry point answers, refusals first, and what the caller's schedule list holds afterwards. An entry point makes only the
--- checks for what it is given. Then every answer said in document 01's numbers.
-use Prim.Native.Nat.{ℕ, zero, suc, _+_}
-use mathlib.Core.List.{List, [], _∷_}
+-- checks for what it is given.
+use Prim.Native.Nat.{ℕ, zero, suc}
+use mathlib.Core.List.{List}
 use Rattle.zsrm.specs.declared.tables.Mode.{Mode}
 use Rattle.zsrm.specs.declared.record.Record.{Record}
 use Rattle.zsrm.specs.declared.answers.Outcome.{Outcome}
@@ -20,7 +20,7 @@ use Rattle.zsrm.specs.Record.{blank, fresh, consistent}
 use Rattle.zsrm.specs.Tick.{choice, readyWord, readyCount, endedWord, advanced}
 use Rattle.zsrm.specs.Run.{runEntries, runRecord}
 use Rattle.zsrm.specs.Legal.{claim}
-use Rattle.zsrm.specs.Verdict.{verdict, witness, part}
+use Rattle.zsrm.specs.Verdict.{Part, emptyPart, part, verdict, witness}
 
 -- what a schedule is made from, as the entry points are given it
 abbrev pub given : Mode → List ℕ → List ℕ → Given
@@ -100,30 +100,5 @@ module _ (g : Given) where
   witnessAnswer horizon schedule j = unless (checkWitness horizon schedule j) witnesses.Refused (witness g schedule j)
 
   -- refused input and a job not in the list give the empty part
-  unfoldable pub responseAnswer : ℕ → List ℕ → ℕ → List ℕ
-  responseAnswer horizon schedule j = unless (checkWitness horizon schedule j) (λ number place. []) (part g schedule j)
-
--- The answers in numbers. A refusal is two numbers, its own and its place; every other answer is one.
-unfoldable pub outcomeSaid : Outcome → List ℕ
-outcomeSaid Done = 0 ∷ []
-outcomeSaid (Refused number place) = number ∷ place ∷ []
-
-unfoldable pub claimSaid : Claim → List ℕ
-claimSaid (claims.Refused number place) = number ∷ place ∷ []
-claimSaid claims.Legal = 0 ∷ []
-claimSaid (claims.NotLegal t) = (65536 + t) ∷ []
-
--- document 01 has no numbers for the verdicts: these are ours
-unfoldable pub verdictSaid : Verdict → List ℕ
-verdictSaid (verdicts.Refused number place) = number ∷ place ∷ []
-verdictSaid verdicts.Met = 0 ∷ []
-verdictSaid verdicts.Late = 1 ∷ []
-verdictSaid verdicts.Ended = 2 ∷ []
-verdictSaid verdicts.Open = 3 ∷ []
-
--- document 01 has no numbers for "accepted" and "not missed": these are ours
-unfoldable pub witnessSaid : Witness → List ℕ
-witnessSaid (witnesses.Refused number place) = number ∷ place ∷ []
-witnessSaid (witnesses.NotLegal t) = (65536 + t) ∷ []
-witnessSaid witnesses.NotMissed = 1 ∷ []
-witnessSaid witnesses.Accepted = 0 ∷ []
+  unfoldable pub responseAnswer : ℕ → List ℕ → ℕ → Part
+  responseAnswer horizon schedule j = unless (checkWitness horizon schedule j) (λ number place. emptyPart) (part g schedule j)

@@ -6,6 +6,7 @@ pub mod Run
 pub mod Legal
 pub mod Verdict
 pub mod Answers
+pub mod Said
 pub mod Bytes
 pub mod Topmost
 pub mod Traced

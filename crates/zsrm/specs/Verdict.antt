@@ -1,7 +1,8 @@
 -- Document 01, verdicts, witnesses, and the part of the schedule that is shown.
-use Prim.Native.Nat.{ℕ, _-_}
+use Prim.Native.Nat.{ℕ, _+_, _*_, _-_}
 use mathlib.Core.Bool.{Bool, true, false, cond}
 use mathlib.Core.List.{List, []}
+use mathlib.Core.Path.{_≡_}
 use lib.ListN.{take, drop}
 use lib.Dec.{leb}
 use Rattle.zsrm.specs.declared.record.Standing.{Standing}
@@ -44,23 +45,38 @@ answered (claims.NotLegal t) isMissed = witnesses.NotLegal t
 answered claims.Legal false = witnesses.NotMissed
 answered claims.Legal true = witnesses.Accepted
 
+-- A part of a schedule: the tick at which it begins, and its entries.
+pub record Part : Type 0 where
+  pub from : ℕ
+  pub entries : List ℕ
+
+abbrev pub emptyPart : Part
+emptyPart = record { from = 0; entries = [] }
+
 -- The entries from arrival up to the finishing instant; for a job in every other standing the empty part.
-abbrev pub partTo : ℕ → List ℕ → Standing → List ℕ
-partTo a schedule NotArrived = []
-partTo a schedule Unfinished = []
-partTo a schedule (Finished f) = take (f - a) (drop a schedule)
-partTo a schedule (Ended e) = []
+abbrev pub partTo : ℕ → List ℕ → Standing → Part
+partTo a schedule NotArrived = emptyPart
+partTo a schedule Unfinished = emptyPart
+partTo a schedule (Finished f) = record { from = a; entries = take (f - a) (drop a schedule) }
+partTo a schedule (Ended e) = emptyPart
 
 -- An illegal claim gives the empty part too.
-abbrev pub shownBy : Claim → List ℕ → List ℕ
-shownBy (claims.Refused number place) part = []
-shownBy (claims.NotLegal t) part = []
+abbrev pub shownBy : Claim → Part → Part
+shownBy (claims.Refused number place) part = emptyPart
+shownBy (claims.NotLegal t) part = emptyPart
 shownBy claims.Legal part = part
+
+-- As a part of the caller's own schedule: a reference that holds the part's entries and points into the schedule, past the entries before
+-- the part, each of which is two bytes wide. A reference's place is a block of memory and a byte in it.
+pub record Shows (schedule : ℕ × ℕ) (p : Part) (place : ℕ × ℕ) (entries : List ℕ) : Type 0 where
+  pub holds : entries ≡ p .entries
+  pub block : place .0 ≡ schedule .0
+  pub byte : place .1 ≡ schedule .1 + 2 * p .from
 
 module _ (g : Given) (schedule : List ℕ) where
   -- A witness is a claim with a job number.
   unfoldable pub witness : ℕ → Witness
   witness j = answered (claim g schedule) (missed (verdict g (replayed g schedule) j))
 
-  unfoldable pub part : ℕ → List ℕ
+  unfoldable pub part : ℕ → Part
   part j = shownBy (claim g schedule) (partTo (arrival (g .jobs) j) schedule (standingAt (replayed g schedule) j))

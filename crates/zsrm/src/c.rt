@@ -81,6 +81,14 @@ fn check_bytes(mode: u32, tasks: &[u8], jobs: &[u8], horizon: u32, len: usize) -
     }
 }
 
+// A refusal's result: its number plus 256 times its place.
+fn packed(number: u32, place: u32) -> u32
+    requires { ⌜ (number ≤ 13) × (place ≤ 64) ⌝ }
+    ensures { λ r. ⌜ r ≡ number + 256 * place ⌝ }
+{
+    number + place * 256
+}
+
 // Our run from the fresh record, its entries written as bytes.
 fn run_bytes(mode: Mode, tasks: &[u32], jobs: &[u32], schedule: &mut [u8])
     requires { ⌜ checkLists (now tasks) (now jobs) ≡ Outcome.Done ⌝ }
@@ -146,7 +154,7 @@ pub extern "C" fn zsrm_run(
             run_bytes(mode_of(mode), &table[..n], &list[..m], schedule);
             0
         }
-        Outcome::Refused(number, place) => number + 256 * place,
+        Outcome::Refused(number, place) => packed(number, place),
     }
 }
 
@@ -170,6 +178,6 @@ pub extern "C" fn zsrm_claim(
             let m = jobs.len() / 4;
             claim_bytes(mode_of(mode), &table[..n], &list[..m], schedule)
         }
-        Outcome::Refused(number, place) => number + 256 * place,
+        Outcome::Refused(number, place) => packed(number, place),
     }
 }

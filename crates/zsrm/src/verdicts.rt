@@ -10,7 +10,7 @@ ghost use Rattle.zsrm.specs.Tables.{arrival};
 ghost use Rattle.zsrm.specs.Code.Fields.{lists};
 ghost use Rattle.zsrm.specs.Record.{standingAt};
 ghost use Rattle.zsrm.specs.Code.Claims.{FitsIn};
-ghost use Rattle.zsrm.specs.Verdict.{judged, verdict, missed, answered, partTo, shownBy};
+ghost use Rattle.zsrm.specs.Verdict.{judged, verdict, missed, answered, partTo, shownBy, Shows};
 ghost use Rattle.zsrm.specs.Answers.{given, checkVerdict, checkWitness, verdictAnswer, witnessAnswer, responseAnswer};
 use crate::answers::Claim;
 use crate::answers::Outcome;
@@ -147,7 +147,7 @@ pub fn witness(
 // The entries of a finished job, from its arrival up to its finishing instant; for every other standing the empty part.
 fn finished_part<'a>(standing: Standing, jobs: &[u32], j: u32, schedule: &'a [u16]) -> &'a [u16]
     requires { ⌜ FitsIn (arrival (now jobs) j) (now schedule) standing ⌝ }
-    ensures { λ r. ⌜ now r ≡ partTo (arrival (now (jobs .entry)) j) (now (schedule .entry)) standing ⌝ }
+    ensures { λ r. ⌜ Shows (schedule .entry .ptr) (partTo (arrival (now (jobs .entry)) j) (now (schedule .entry)) standing) (r .ptr) (now r) ⌝ }
 {
     let Standing::Finished(f) = standing else {
         return &schedule[0..0];
@@ -167,7 +167,7 @@ fn replayed_part<'a>(
     schedule: &'a [u16],
 ) -> &'a [u16]
     requires { ⌜ (j < 64) × (claim ≡ Claim.Legal → FitsIn (arrival (now jobs) j) (now schedule) (standingAt rec j)) ⌝ }
-    ensures { λ r. ⌜ now r ≡ shownBy claim (partTo (arrival (now (jobs .entry)) j) (now (schedule .entry)) (standingAt rec j)) ⌝ }
+    ensures { λ r. ⌜ Shows (schedule .entry .ptr) (shownBy claim (partTo (arrival (now (jobs .entry)) j) (now (schedule .entry)) (standingAt rec j))) (r .ptr) (now r) ⌝ }
 {
     let i = j as usize;
     let place = rec.places[i];
@@ -189,7 +189,7 @@ pub fn response<'a>(
     schedule: &'a [u16],
     job: u32,
 ) -> &'a [u16]
-    ensures { λ r. ⌜ now r ≡ responseAnswer (given mode (now (tasks .entry)) (now (jobs .entry))) horizon (now (schedule .entry)) job ⌝ }
+    ensures { λ r. ⌜ Shows (schedule .entry .ptr) (responseAnswer (given mode (now (tasks .entry)) (now (jobs .entry))) horizon (now (schedule .entry)) job) (r .ptr) (now r) ⌝ }
 {
     let checked = check_witness(tasks, jobs, horizon, schedule.len(), job);
     match checked {

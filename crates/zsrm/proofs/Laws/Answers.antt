@@ -14,7 +14,9 @@ use Rattle.zsrm.specs.declared.answers.Outcome.the-variants.{Done, Refus
 use Rattle.zsrm.specs.declared.answers.Verdict.the-variants.{Met}
 use Rattle.zsrm.specs.declared.record.Record.{Record}
 use Rattle.zsrm.specs.declared.record.Standing.the-variants.{Finished}
-use Rattle.zsrm.specs.Answers.{checkGiven, checkSchedule, checkStep, checkVerdict, claimAnswer, claimSaid, ran, runAnswer, runSchedule, unless, verdictAnswer}
+use Rattle.zsrm.specs.Answers.{checkGiven, checkSchedule, checkStep, checkVerdict, claimAnswer, ran, runAnswer, runSchedule, unless, verdictAnswer}
+use Rattle.zsrm.specs.Said.{claimSaid}
+use Rattle.zsrm.specs.Said as say
 use Rattle.zsrm.specs.Legal.{claim}
 use Rattle.zsrm.specs.Record.{consistent, fresh, standingAt}
 use Rattle.zsrm.specs.Refusals.{before, check10, check11, check12, check13, check9, checkJobs, checkLists, checkTasks, refuse}
@@ -69,7 +71,7 @@ pub record LegalClaim (g : Given) (horizon : ℕ) (schedule : List ℕ) : Type 0
   pub input : Accepted g horizon schedule
   pub legal : claim g schedule ≡ claims.Legal
 
-pub is-legal : (g : Given) (horizon : ℕ) (schedule : List ℕ) → claimSaid (claimAnswer g horizon schedule) ≡ 0 ∷ [] → LegalClaim g horizon schedule
+pub is-legal : (g : Given) (horizon : ℕ) (schedule : List ℕ) → claimSaid (claimAnswer g horizon schedule) ≡ say.legal → LegalClaim g horizon schedule
 unfolding claimSaid claimAnswer unless
 is-legal g horizon schedule e =
     go (checkSchedule g horizon schedule) refl (claim-said (claimAnswer g horizon schedule) claims.Legal e)

@@ -1,5 +1,5 @@
 -- Lists as bytes: one number more, and what a list of bytes says of the numbers in it.
-use Prim.Native.Nat.{_%_, _*_, _+_, _/_, _<_, suc, ℕ, _≤_}
+use Prim.Native.Nat.{_%_, _*_, _+_, _/_, _<_, suc, zero, ℕ, _≤_}
 use mathlib.Core.Bool.{Bool, false, not, or-true, true, _||_}
 use mathlib.Core.List.{_++_, List, [], append-assoc, _∷_}
 use mathlib.Core.Logic.{inl, inr, _⊎_}
@@ -8,10 +8,10 @@ use native.Mathlib.Numerals.{add-one}
 use native.Mathlib.Omega.{arith}
 use lib.Dec.{eqb, ltb}
 use lib.ListN.{getD, length, length-set, set, take}
-use lib.Seq.{take-suc-set}
+use lib.Seq.{ext-getD, take-suc-set}
 use borrow.Author.Tests.{eq-eqb, eqb-true, lt-ltb, ltb-false, ltb-true, not-false}
 use Rattle.bits.specs.Below.{listFrom}
-use Rattle.bits.proofs.Below.{getD-list, length-listFrom, list-snoc}
+use Rattle.bits.proofs.Below.{getD-list, getD-listFrom, length-listFrom, list-snoc}
 use Rattle.bits.proofs.Bools.{either, or-left-false, or-right-false}
 use Rattle.bits.proofs.Most.{most}
 use Rattle.zsrm.specs.declared.answers.Outcome.{Outcome}
@@ -63,6 +63,55 @@ length-numbers2 bytes = length-listFrom 0 (length bytes / 2) (number2 bytes)
 pub entry-at : (bytes : List ℕ) (t : ℕ) → t < length bytes / 2 → getD (numbers2 bytes) t 0 ≡ number2 bytes t
 unfolding numbers2
 entry-at bytes t b = getD-list (length bytes / 2) (number2 bytes) t 0 b
+
+-- entries written as bytes and read again are the entries
+pub length-bytes2 : (es : List ℕ) → length (bytes2 es) ≡ length es * 2
+unfolding bytes2
+length-bytes2 [] = refl
+length-bytes2 (e ∷ es) = omega (arith, length-bytes2 es)
+
+-- behind two bytes a number stands one place further on
+number2-behind : (a b : ℕ) (bytes : List ℕ) (i : ℕ) → number2 (a ∷ b ∷ bytes) (suc i) ≡ number2 bytes i
+unfolding number2
+number2-behind a b bytes i =
+    ap₂ (λ (x y : ℕ). getD (a ∷ b ∷ bytes) x 0 + getD (a ∷ b ∷ bytes) y 0 * 256)
+    (let e : suc i * 2 ≡ suc (suc (i * 2)) = omega arith in e) (let e : suc i * 2 + 1 ≡ suc (suc (i * 2 + 1)) = omega arith in e)
+
+number2-bytes2 : (es : List ℕ) (i : ℕ) → number2 (bytes2 es) i ≡ getD es i 0
+unfolding bytes2 number2
+number2-bytes2 [] i = omega arith
+number2-bytes2 (e ∷ es) zero = omega arith
+number2-bytes2 (e ∷ es) (suc i) = number2-behind (e % 256) (e / 256) (bytes2 es) i ∙ number2-bytes2 es i
+
+pub entries-back : (es : List ℕ) → numbers2 (bytes2 es) ≡ es
+unfolding numbers2
+entries-back es =
+    let n : length (numbers2 (bytes2 es)) ≡ length es = omega (arith, length-numbers2 (bytes2 es), length-bytes2 es) in
+    ext-getD 0 (numbers2 (bytes2 es)) es n
+    (λ i l. entry-at (bytes2 es) i (omega (arith, length-bytes2 es)) ∙ number2-bytes2 es i)
+
+-- bytes read as entries and written again are the bytes, where their count is even
+pub bytes-back : (bytes : List ℕ) → length bytes % 2 ≡ 0 → ((i : ℕ) → i < length bytes → getD bytes i 0 < 256) → bytes2 (numbers2 bytes) ≡ bytes
+unfolding bytes2 numbers2 listFrom
+bytes-back [] even small = refl
+bytes-back (a ∷ []) even small = absurd (omega arith)
+bytes-back (a ∷ b ∷ bytes) even small =
+    let low : a < 256 = small 0 (omega arith) in
+    let first : number2 (a ∷ b ∷ bytes) 0 ≡ a + b * 256 = unfold number2 in omega arith in
+    ap bytes2 (numbers-more a b bytes)
+    ∙ ap₂ (λ (x : ℕ) (l : List ℕ). x % 256 ∷ x / 256 ∷ l) first (bytes-back bytes (omega arith) (λ i l. small (suc (suc i)) (omega arith)))
+    ∙ ap₂ (λ (x y : ℕ). x ∷ y ∷ bytes) (let e : (a + b * 256) % 256 ≡ a = omega arith in e) (let e : (a + b * 256) / 256 ≡ b = omega arith in e)
+  where
+    numbers-more : (a b : ℕ) (bytes : List ℕ) → numbers2 (a ∷ b ∷ bytes) ≡ number2 (a ∷ b ∷ bytes) 0 ∷ numbers2 bytes
+    numbers-more a b bytes =
+        let n : length (a ∷ b ∷ bytes) / 2 ≡ suc (length bytes / 2) = omega arith in
+        ap (λ (k : ℕ). listFrom 0 k (number2 (a ∷ b ∷ bytes))) n
+        ∙ ap (λ (l : List ℕ). number2 (a ∷ b ∷ bytes) 0 ∷ l)
+        (ext-getD 0 (listFrom 1 (length bytes / 2) (number2 (a ∷ b ∷ bytes))) (numbers2 bytes)
+        (length-listFrom 1 (length bytes / 2) (number2 (a ∷ b ∷ bytes)) ∙ sym (length-numbers2 bytes))
+        (λ i l. let m = length-listFrom 1 (length bytes / 2) (number2 (a ∷ b ∷ bytes)) in
+        getD-listFrom 1 (length bytes / 2) (number2 (a ∷ b ∷ bytes)) i 0 (omega arith)
+        ∙ ap (number2 (a ∷ b ∷ bytes)) (let e : 1 + i ≡ suc i = omega arith in e) ∙ number2-behind a b bytes i ∙ sym (entry-at bytes i (omega arith))))
 
 -- a byte count that makes no whole number, or is too long, is refused with the list's own number; any other says nothing yet
 pub fits-whole : (bytes : List ℕ) (most : ℕ) → (not (eqb (length bytes % 4) 0) || ltb most (length bytes)) ≡ false → (length bytes % 4 ≡ 0) × (length bytes ≤ most)

@@ -15,7 +15,9 @@ use Rattle.zsrm.specs.declared.answers.Outcome.the-variants.{Done, Refus
 use Rattle.zsrm.specs.declared.answers.Stepped.{Stepped}
 use Rattle.zsrm.specs.declared.record.Record.{Record}
 use Rattle.zsrm.specs.declared.record.Standing.the-variants.{Finished}
-use Rattle.zsrm.specs.Answers.{checkGiven, checkSchedule, checkStep, checkVerdict, checkWitness, claimAnswer, claimSaid, freshAnswer, outcomeSaid, ran, responseAnswer, runAnswer, runSchedule, stepAnswer, stepped, stepsFrom, unless, verdictAnswer, verdictSaid, witnessAnswer, witnessSaid}
+use Rattle.zsrm.specs.Answers.{checkGiven, checkSchedule, checkStep, checkVerdict, checkWitness, claimAnswer, freshAnswer, ran, responseAnswer, runAnswer, runSchedule, stepAnswer, stepped, stepsFrom, unless, verdictAnswer, witnessAnswer}
+use Rattle.zsrm.specs.Said.{claimSaid, outcomeSaid, verdictSaid, witnessSaid}
+use Rattle.zsrm.specs.Said as say
 use Rattle.zsrm.specs.Code.Claims.{FitsIn}
 use Rattle.zsrm.specs.Legal.{claim}
 use Rattle.zsrm.specs.Record.{blank, consistent, fresh, standingAt}
@@ -24,10 +26,11 @@ use Rattle.zsrm.specs.Run.{entries, entriesBy, final, replay, replayed, 
 use Rattle.zsrm.specs.Tables.{Given, arrival, criticality, deadline, idle, jobCount, nominal, overload, period, priority, taskCount, zeroSlack}
 use Rattle.zsrm.specs.Tick.{advanced, choice}
 use Rattle.zsrm.specs.Topmost.{Topmost}
-use Rattle.zsrm.specs.Verdict.{missed, part, verdict, witness}
+use Rattle.zsrm.specs.Verdict.{Part, emptyPart, missed, part, verdict, witness}
 use Rattle.zsrm.proofs.Laws.Accepted.{few-jobs}
 use Rattle.zsrm.proofs.Laws.Answers.{accepted, accepted-lists, is-legal, unless-done, unless-refused}
 use Rattle.zsrm.proofs.Laws.Consistent.{fresh-consistent}
+use Rattle.zsrm.proofs.Laws.Exactly.{answered}
 use Rattle.zsrm.proofs.Laws.Going.{Going, going-more, going-none, steps-entry}
 use Rattle.zsrm.proofs.Laws.Places.{tick-fresh}
 use Rattle.zsrm.proofs.Laws.Refusals.{before-first}
@@ -37,13 +40,6 @@ use Rattle.zsrm.proofs.Readings.{missed-reads, witness-reads}
 use Rattle.zsrm.specs.declared.answers.Claim.the-variants as claims
 use Rattle.zsrm.specs.declared.answers.Verdict.the-variants as verdicts
 use Rattle.zsrm.specs.declared.answers.Witness.the-variants as witnesses
-
--- an answer that is none of the refusals says that nothing was refused
-module _ {A : Type 0} (refused : ℕ → ℕ → A) (answer x : A) (never : (number place : ℕ) → refused number place ≡ x → ⊥) where
-  answers : (o : Outcome) → unless o refused answer ≡ x → (o ≡ Done) × (answer ≡ x)
-  unfolding unless
-  answers Done e = (refl, e)
-  answers (Refused n p) e = absurd (never n p e)
 
 -- a step that meets its checks is taken
 step-taken : (g : Given) (r : Record) → checkGiven g ≡ Done → consistent g r ≡ true → r .tick < 16384 → stepAnswer g r ≡ stepped g r
@@ -70,11 +66,11 @@ getD-entries g r (suc n) zero l = refl
 getD-entries g r (suc n) (suc t) l = getD-entries g (advanced g r (choice g r)) n t (omega arith)
 
 -- our run, where nothing is refused
-pub run-checked : (g : Given) (horizon : ℕ) (lent : List ℕ) → outcomeSaid (runAnswer g horizon lent .outcome) ≡ 0 ∷ [] → checkSchedule g horizon lent ≡ Done
+pub run-checked : (g : Given) (horizon : ℕ) (lent : List ℕ) → outcomeSaid (runAnswer g horizon lent .outcome) ≡ say.done → checkSchedule g horizon lent ≡ Done
 unfolding runAnswer ran outcomeSaid
 run-checked g horizon lent done = outcome-said (checkSchedule g horizon lent) Done done
 
-pub run-refused-keeps : (g : Given) (horizon : ℕ) (lent : List ℕ) (number place : ℕ) → outcomeSaid (runAnswer g horizon lent .outcome) ≡ number ∷ place ∷ []
+pub run-refused-keeps : (g : Given) (horizon : ℕ) (lent : List ℕ) (number place : ℕ) → outcomeSaid (runAnswer g horizon lent .outcome) ≡ say.refused number place
     → (runSchedule g horizon lent ≡ lent) × (runAnswer g horizon lent .«record» ≡ blank)
 unfolding runAnswer runSchedule ran outcomeSaid
 run-refused-keeps g horizon lent number place says =
@@ -117,7 +113,7 @@ module _ (g : Given) (horizon : ℕ) (lent : List ℕ) (ok : checkSchedule g hor
       let z = tick-fresh (g .jobs) in
       rw fresh-record (step-taken g _ (a .lists) (w .sound) (omega (arith, w .time)) ∙ ap (stepped g) (w .is))
 
-  pub ran-step-done : (t : ℕ) → t < horizon → outcomeSaid (stepAnswer g (stepsFrom g (freshAnswer (g .tasks) (g .jobs) .«record») t) .outcome) ≡ 0 ∷ []
+  pub ran-step-done : (t : ℕ) → t < horizon → outcomeSaid (stepAnswer g (stepsFrom g (freshAnswer (g .tasks) (g .jobs) .«record») t) .outcome) ≡ say.done
   unfolding stepped outcomeSaid
   ran-step-done t l = ap (λ (s : Stepped). outcomeSaid (s .outcome)) (ran-step t l)
 
@@ -129,11 +125,11 @@ module _ (g : Given) (horizon : ℕ) (lent : List ℕ) (ok : checkSchedule g hor
       ∙ ap (λ (s : Stepped). s .entry) (sym (ran-step t l))
 
 -- a legal schedule was accepted, and its verdicts are not refused
-module _ (g : Given) (horizon : ℕ) (schedule : List ℕ) (legal : claimSaid (claimAnswer g horizon schedule) ≡ 0 ∷ []) where
+module _ (g : Given) (horizon : ℕ) (schedule : List ℕ) (legal : claimSaid (claimAnswer g horizon schedule) ≡ say.legal) where
   checked : checkSchedule g horizon schedule ≡ Done
   unfolding claimAnswer claimSaid
   checked =
-      answers claims.Refused (claim g schedule) claims.Legal (λ n p e. let z : _≡_ {A = ℕ} 0 1 = cc in omega arith) (checkSchedule g horizon schedule)
+      answered claims.Refused (claim g schedule) claims.Legal (λ n p e. let z : _≡_ {A = ℕ} 0 1 = cc in omega arith) (checkSchedule g horizon schedule) .0
       (claim-said (claimAnswer g horizon schedule) claims.Legal legal) .0
 
   module _ (j : ℕ) (l : j < jobCount (g .jobs)) where
@@ -153,7 +149,7 @@ module _ (g : Given) (horizon : ℕ) (schedule : List ℕ) (legal : claimSaid (c
     witness-taken = unless-done _ _ (checkWitness g horizon schedule j) checked-job
 
     -- a job that is judged met is not missed
-    pub met-not-missed : verdictSaid (verdictAnswer g (replayed g schedule) j) ≡ 0 ∷ [] → witnessSaid (witnessAnswer g horizon schedule j) ≡ 1 ∷ []
+    pub met-not-missed : verdictSaid (verdictAnswer g (replayed g schedule) j) ≡ say.met → witnessSaid (witnessAnswer g horizon schedule j) ≡ say.notMissed
     unfolding verdictSaid witnessSaid
     met-not-missed h =
         let met : verdict g (replayed g schedule) j ≡ verdicts.Met = sym verdict-taken ∙ verdict-said (verdictAnswer g (replayed g schedule) j) verdicts.Met h in
@@ -161,23 +157,26 @@ module _ (g : Given) (horizon : ℕ) (schedule : List ℕ) (legal : claimSaid (c
 
     -- the part that is shown of a finished job
     shown : (f : ℕ) → standingAt (replayed g schedule) j ≡ Finished f
-        → responseAnswer g horizon schedule j ≡ take (f - arrival (g .jobs) j) (drop (arrival (g .jobs) j) schedule)
+        → responseAnswer g horizon schedule j ≡ record { from = arrival (g .jobs) j; entries = take (f - arrival (g .jobs) j) (drop (arrival (g .jobs) j) schedule) }
     unfolding responseAnswer part
     shown f q = unless-done _ _ (checkWitness g horizon schedule j) checked-job ∙ rw (is-legal g horizon schedule legal .legal, q)
 
+    pub shown-from : (f : ℕ) → standingAt (replayed g schedule) j ≡ Finished f → responseAnswer g horizon schedule j .from ≡ arrival (g .jobs) j
+    shown-from f q = ap (λ (p : Part). p .from) (shown f q)
+
     pub shown-length : (f : ℕ) → standingAt (replayed g schedule) j ≡ Finished f
-        → length (responseAnswer g horizon schedule j) ≡ f - arrival (g .jobs) j
+        → length (responseAnswer g horizon schedule j .entries) ≡ f - arrival (g .jobs) j
     shown-length f q =
         let c = is-legal g horizon schedule legal in
         let a = c .input in
         let few = few-jobs (g .tasks) (g .jobs) (a .jobs) in
         let w : FitsIn (arrival (g .jobs) j) schedule (Finished f) =
         subst (FitsIn (arrival (g .jobs) j) schedule) q (part-fits g schedule j (omega arith) (omega arith) (c .legal)) in
-        ap length (shown f q)
+        ap (λ (p : Part). length (p .entries)) (shown f q)
         ∙ length-take-le (f - arrival (g .jobs) j) (drop (arrival (g .jobs) j) schedule) (simp length-drop (omega (arith, w .0, w .1)))
 
-    pub shown-entries : (f : ℕ) → standingAt (replayed g schedule) j ≡ Finished f → (i : ℕ) → i < length (responseAnswer g horizon schedule j)
-        → getD (responseAnswer g horizon schedule j) i idle ≡ getD schedule (arrival (g .jobs) j + i) idle
+    pub shown-entries : (f : ℕ) → standingAt (replayed g schedule) j ≡ Finished f → (i : ℕ) → i < length (responseAnswer g horizon schedule j .entries)
+        → getD (responseAnswer g horizon schedule j .entries) i idle ≡ getD schedule (arrival (g .jobs) j + i) idle
     shown-entries f q i b =
         let n = shown-length f q in
         rw (shown f q) (getD-take (f - arrival (g .jobs) j) (drop (arrival (g .jobs) j) schedule) i idle (omega arith)
@@ -187,27 +186,27 @@ module _ (g : Given) (horizon : ℕ) (schedule : List ℕ) (legal : claimSaid (c
 module _ (g : Given) (horizon : ℕ) (schedule : List ℕ) (j : ℕ) where
   -- a job is late or ended, in the verdict's numbers
   abbrev pub Missed : Type 0
-  Missed = (verdictSaid (verdictAnswer g (replayed g schedule) j) ≡ 1 ∷ []) ⊎ (verdictSaid (verdictAnswer g (replayed g schedule) j) ≡ 2 ∷ [])
+  Missed = (verdictSaid (verdictAnswer g (replayed g schedule) j) ≡ say.late) ⊎ (verdictSaid (verdictAnswer g (replayed g schedule) j) ≡ say.ended)
 
   within : checkWitness g horizon schedule j ≡ Done → checkSchedule g horizon schedule ≡ Done
   unfolding checkWitness
   within ok = before-first (checkSchedule g horizon schedule) (check13 (g .jobs) j) ok
 
-  pub accepted-says : witnessSaid (witnessAnswer g horizon schedule j) ≡ 0 ∷ []
-      → (claimSaid (claimAnswer g horizon schedule) ≡ 0 ∷ []) × (j < jobCount (g .jobs)) × Missed
+  pub accepted-says : witnessSaid (witnessAnswer g horizon schedule j) ≡ say.accepted
+      → (claimSaid (claimAnswer g horizon schedule) ≡ say.legal) × (j < jobCount (g .jobs)) × Missed
   unfolding witnessSaid witnessAnswer claimSaid claimAnswer verdictSaid
   accepted-says h =
-      let w = answers witnesses.Refused (witness g schedule j) witnesses.Accepted (λ n p e. let z : _≡_ {A = ℕ} 0 1 = cc in omega arith)
-      (checkWitness g horizon schedule j) (witness-said (witnessAnswer g horizon schedule j) witnesses.Accepted h) in
+      let w = answered witnesses.Refused (witness g schedule j) witnesses.Accepted (λ n p e. let z : _≡_ {A = ℕ} 0 1 = cc in omega arith)
+      (checkWitness g horizon schedule j) .0 (witness-said (witnessAnswer g horizon schedule j) witnesses.Accepted h) in
       let v = witnessed g horizon schedule j (w .0) in
       let l : j < jobCount (g .jobs) = v .named .job in
       let a = witness-reads g schedule j witnesses.Accepted .0 (w .1) in
-      let legal : claimSaid (claimAnswer g horizon schedule) ≡ 0 ∷ [] =
+      let legal : claimSaid (claimAnswer g horizon schedule) ≡ say.legal =
       ap claimSaid (unless-done claims.Refused (claim g schedule) (checkSchedule g horizon schedule) (within (w .0)) ∙ a .0) in
       let taken = verdict-taken g horizon schedule legal j l in
       (legal, l, ⊎-elim (λ e. inl (ap verdictSaid (taken ∙ e))) (λ e. inr (ap verdictSaid (taken ∙ e))) (missed-reads (verdict g (replayed g schedule) j) .0 (a .1)))
 
-  pub missed-accepted : claimSaid (claimAnswer g horizon schedule) ≡ 0 ∷ [] → j < jobCount (g .jobs) → Missed → witnessSaid (witnessAnswer g horizon schedule j) ≡ 0 ∷ []
+  pub missed-accepted : claimSaid (claimAnswer g horizon schedule) ≡ say.legal → j < jobCount (g .jobs) → Missed → witnessSaid (witnessAnswer g horizon schedule j) ≡ say.accepted
   unfolding witnessSaid verdictSaid
   missed-accepted legal l m =
       ap witnessSaid (witness-taken g horizon schedule legal j l ∙ witness-reads g schedule j witnesses.Accepted .1 (

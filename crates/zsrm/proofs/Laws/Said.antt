@@ -10,11 +10,13 @@ use Rattle.zsrm.specs.declared.answers.Claim.{Claim}
 use Rattle.zsrm.specs.declared.answers.Outcome.{Outcome}
 use Rattle.zsrm.specs.declared.answers.Verdict.{Verdict}
 use Rattle.zsrm.specs.declared.answers.Witness.{Witness}
-use Rattle.zsrm.specs.Answers.{claimSaid, outcomeSaid, verdictSaid, witnessSaid}
+use Rattle.zsrm.specs.declared.record.Standing.{Standing}
+use Rattle.zsrm.specs.Said.{claimSaid, outcomeSaid, standingSaid, verdictSaid, witnessSaid}
 use Rattle.zsrm.specs.declared.answers.Outcome.the-variants as outcomes
 use Rattle.zsrm.specs.declared.answers.Claim.the-variants as claims
 use Rattle.zsrm.specs.declared.answers.Verdict.the-variants as verdicts
 use Rattle.zsrm.specs.declared.answers.Witness.the-variants as witnesses
+use Rattle.zsrm.specs.declared.record.Standing.the-variants as standings
 
 -- two numbers are a refusal; one number is read by its own table
 module _ {A : Type 0} (refused : ℕ → ℕ → A) (one : ℕ → A) where
@@ -83,3 +85,19 @@ witness-said = told witnessSaid witnessOf again
     again (witnesses.NotLegal t) = not-legal-back witnesses.NotLegal (λ x. cond (eqb x 0) witnesses.Accepted witnesses.NotMissed) t
     again witnesses.NotMissed = refl
     again witnesses.Accepted = refl
+
+standingOf : List ℕ → Standing
+standingOf (x ∷ y ∷ []) = cond (eqb x 2) (standings.Finished y) (standings.Ended y)
+standingOf [] = standings.NotArrived
+standingOf (x ∷ []) = cond (eqb x 0) standings.NotArrived standings.Unfinished
+standingOf (x ∷ y ∷ z ∷ rest) = standings.NotArrived
+
+pub standing-said : (a b : Standing) → standingSaid a ≡ standingSaid b → a ≡ b
+unfolding standingSaid standingOf
+standing-said = told standingSaid standingOf again
+  where
+    again : (a : Standing) → standingOf (standingSaid a) ≡ a
+    again standings.NotArrived = refl
+    again standings.Unfinished = refl
+    again (standings.Finished f) = refl
+    again (standings.Ended e) = refl

@@ -3,7 +3,7 @@
 use Prim.Native.Nat.{_%_, _*_, _+_, _/_, _<_, suc, zero, ℕ, _≤_}
 use mathlib.Core.Bool.{Bool, false, not, true}
 use mathlib.Core.List.{List, [], _∷_}
-use mathlib.Core.Logic.{inl}
+use mathlib.Core.Logic.{inl, _↔_}
 use mathlib.Core.Path.{ap, ap₂, refl, subst, sym, _∙_, _≡_}
 use native.Mathlib.Omega.{arith}
 use lib.Dec.{eqb, ltb}
@@ -15,17 +15,22 @@ use Rattle.zsrm.specs.declared.answers.Outcome.the-variants.{Done, Refus
 use Rattle.zsrm.specs.declared.answers.Claim.{Claim}
 use Rattle.zsrm.specs.declared.record.Record.{Record}
 use Rattle.zsrm.specs.declared.tables.Mode.{Mode}
-use Rattle.zsrm.specs.Answers.{checkGiven, checkSchedule, given, runSchedule, unless}
+use Rattle.zsrm.specs.Answers.{checkGiven, checkSchedule, claimAnswer, given, runSchedule, unless}
 use Rattle.zsrm.specs.Bytes.{bytes2, checkBytes, claimResult, givenBytes, modeOf, numbers2, numbers4, packedClaim, packedOutcome, runBytes, runResult, uneven}
 use Rattle.zsrm.specs.Legal.{claim, claimFrom, legalEntry}
 use Rattle.zsrm.specs.Refusals.{ascending, before, check1, check10, check2, check3, check4, check5, check6, check7, check8, check9, checkJobs, checkLists, checkTasks, outside, refuse}
 use Rattle.zsrm.specs.Run.{runEntries}
+use Rattle.zsrm.specs.Said.{claimSaid, outcomeSaid}
 use Rattle.zsrm.specs.Tables.{Given, jobCount, taskCount}
 use Rattle.zsrm.specs.Tick.{advanced}
 use Rattle.zsrm.proofs.Laws.Accepted.{job, task}
-use Rattle.zsrm.proofs.Laws.Answers.{run-given, schedule-checked, unless-done, unless-refused}
-use Rattle.zsrm.proofs.Laws.Bytes.{jobs-small, length-numbers2, tasks-small}
+use Rattle.zsrm.proofs.Laws.Answers.{is-legal, run-claim, run-given, schedule-checked, unless-done, unless-refused}
+use Rattle.zsrm.proofs.Laws.Bytes.{entries-back, jobs-small, length-bytes2, length-numbers2, tasks-small}
 use Rattle.zsrm.proofs.Laws.Refusals.{before-first, before-second, refuse-fine}
+use Rattle.zsrm.proofs.Laws.Run.{length-run}
+use Rattle.zsrm.proofs.Laws.Said.{claim-said, outcome-said}
+use Rattle.zsrm.proofs.Readings.{claim-not-refused}
+use Rattle.zsrm.specs.Said as say
 use Rattle.zsrm.specs.declared.answers.Claim.the-variants as claims
 
 abbrev pub Small : Outcome → Type 0
@@ -144,18 +149,6 @@ module _ (mode : ℕ) (tasks jobs : List ℕ) (horizon : ℕ) (schedule : List �
     unfolding claimResult packedClaim
     c-claim-refused = sym (ap packedClaim (unless-refused claims.Refused (claim (givenBytes mode tasks jobs) (numbers2 schedule)) (checkBytes mode tasks jobs horizon schedule) number place e))
 
--- the claim check itself refuses nothing
-claim-plain : (g : Given) (r : Record) (last : ℕ) (es : List ℕ) (number place : ℕ) → claimFrom g r last es ≡ claims.Refused number place → ⊥
-unfolding claimFrom
-claim-plain g r last [] number place e = let z : _≡_ {A = ℕ} 0 1 = cc in omega arith
-claim-plain g r last (x ∷ es) number place e = by-test (legalEntry g r last x) (claim-plain g (advanced g r x) x es number place) e
-  where
-    by-test : (b : Bool) → (claimFrom g (advanced g r x) x es ≡ claims.Refused number place → ⊥)
-        → elim b [ true ↦ claimFrom g (advanced g r x) x es | false ↦ claims.NotLegal (r .tick) ] ≡ claims.Refused number place
-        → ⊥
-    by-test true never e = never e
-    by-test false never e = let z : _≡_ {A = ℕ} 0 1 = cc in omega arith
-
 -- a packed answer of 0 is the answer itself
 zero-outcome : (o : Outcome) → Small o → packedOutcome o ≡ 0 → o ≡ Done
 unfolding packedOutcome
@@ -193,7 +186,101 @@ module _ (mode : ℕ) (tasks jobs : List ℕ) (horizon : ℕ) (schedule : List �
       by-check : (o : Outcome) → checkBytes mode tasks jobs horizon schedule ≡ o → Small o
           → packedClaim (unless o claims.Refused (claim (givenBytes mode tasks jobs) (numbers2 schedule))) ≡ 0
           → (checkSchedule (givenBytes mode tasks jobs) horizon (numbers2 schedule) ≡ Done) × (claim (givenBytes mode tasks jobs) (numbers2 schedule) ≡ claims.Legal)
-      by-check Done ok small z = (spelled-fine ok, zero-claim _ (claim-plain _ _ _ (numbers2 schedule)) (unfold unless in z))
+      by-check Done ok small z = (spelled-fine ok, zero-claim _ (claim-not-refused _ (numbers2 schedule)) (unfold unless in z))
       by-check (Refused number place) ok small z =
           let p : number + 256 * place ≡ 0 = unfold unless packedClaim in z in
           absurd (omega (arith, small .0))
+
+  -- where a run is refused its bytes stay
+  pub c-run-kept : (runResult mode tasks jobs horizon schedule ≡ 0 → ⊥) → runBytes mode tasks jobs horizon schedule ≡ schedule
+  unfolding runResult packedOutcome
+  c-run-kept h = by-check (checkBytes mode tasks jobs horizon schedule) refl
+    where
+      by-check : (o : Outcome) → checkBytes mode tasks jobs horizon schedule ≡ o → runBytes mode tasks jobs horizon schedule ≡ schedule
+      by-check Done ok = absurd (h (ap packedOutcome ok))
+      by-check (Refused number place) ok = sym (c-keeps mode tasks jobs horizon schedule number place ok)
+
+-- of the schedule's bytes the checks see the count alone
+same-count : (mode : ℕ) (tasks jobs : List ℕ) (horizon : ℕ) (a b : List ℕ) → length a ≡ length b → checkBytes mode tasks jobs horizon a ≡ checkBytes mode tasks jobs horizon b
+unfolding checkBytes uneven check10
+same-count mode tasks jobs horizon a b e = rw (length-numbers2, length-numbers2, e)
+
+-- what a run writes is a legal claim of the same lists
+pub c-run-claim : (mode : ℕ) (tasks jobs : List ℕ) (horizon : ℕ) (schedule : List ℕ) → runResult mode tasks jobs horizon schedule ≡ 0
+    → claimResult mode tasks jobs horizon (runBytes mode tasks jobs horizon schedule) ≡ 0
+unfolding claimResult runResult packedClaim claimSaid
+c-run-claim mode tasks jobs horizon schedule e =
+    let ok = zero-outcome (checkBytes mode tasks jobs horizon schedule) (small-bytes mode tasks jobs horizon schedule) e in
+    let c = called mode tasks jobs horizon schedule ok in
+    let w = c-run-zero mode tasks jobs horizon schedule e in
+    let g = givenBytes mode tasks jobs in
+    let es = runSchedule g horizon (numbers2 schedule) in
+    let n : length es ≡ horizon = ap length (run-given g horizon (numbers2 schedule) (w .0) .1) ∙ length-run g horizon in
+    let count : length (bytes2 es) ≡ length schedule = omega (arith, length-bytes2 es, c .even, c .whole) in
+    let lawful : claim g es ≡ claims.Legal = is-legal g horizon es (ap claimSaid (run-claim g horizon (numbers2 schedule) (w .0))) .legal in
+    rw (w .1)
+    (ap packedClaim
+    (unless-done claims.Refused (claim g (numbers2 (bytes2 es))) (checkBytes mode tasks jobs horizon (bytes2 es)) (same-count mode tasks jobs horizon (bytes2 es) schedule count ∙ ok)
+    ∙ ap (claim g) (entries-back es) ∙ lawful))
+
+-- the results exactly
+module _ (mode : ℕ) (tasks jobs : List ℕ) (horizon : ℕ) (schedule : List ℕ) where
+  pub c-refused-both : (number place : ℕ) → outcomeSaid (checkBytes mode tasks jobs horizon schedule) ≡ say.refused number place
+      → (runResult mode tasks jobs horizon schedule ≡ number + 256 * place) × (claimResult mode tasks jobs horizon schedule ≡ number + 256 * place)
+  unfolding outcomeSaid
+  c-refused-both number place e =
+      let q = outcome-said (checkBytes mode tasks jobs horizon schedule) (Refused number place) e in
+      (sym (c-refused mode tasks jobs horizon schedule number place q), sym (c-claim-refused mode tasks jobs horizon schedule number place q))
+
+  pub c-run-exactly : runResult mode tasks jobs horizon schedule ≡ 0 ↔ outcomeSaid (checkBytes mode tasks jobs horizon schedule) ≡ say.done
+  unfolding outcomeSaid runResult
+  c-run-exactly = (
+    λ e. ap outcomeSaid (zero-outcome (checkBytes mode tasks jobs horizon schedule) (small-bytes mode tasks jobs horizon schedule) e),
+    λ e. sym (c-done mode tasks jobs horizon schedule (outcome-said (checkBytes mode tasks jobs horizon schedule) Done e)),
+  )
+
+  -- where nothing is refused, the result is the packed answer to the claim of the lists that the bytes spell
+  claim-packed : checkBytes mode tasks jobs horizon schedule ≡ Done
+      → claimResult mode tasks jobs horizon schedule ≡ packedClaim (claimAnswer (givenBytes mode tasks jobs) horizon (numbers2 schedule))
+  unfolding claimResult claimAnswer
+  claim-packed ok = ap packedClaim (unless-done _ _ _ ok ∙ sym (unless-done _ _ _ (spelled-fine mode tasks jobs horizon schedule ok)))
+
+  -- a packed answer that is no refusal's is the answer; a refusal's is at least 1 and far below 65,536
+  unpacked : (c d : Claim) → ((number place : ℕ) → c ≡ claims.Refused number place → ⊥) → ((number place : ℕ) → d ≡ claims.Refused number place → ⊥) → packedClaim c ≡ packedClaim d → c ≡ d
+  unfolding packedClaim
+  unpacked (claims.Refused n p) d a b e = absurd (a n p refl)
+  unpacked claims.Legal (claims.Refused n p) a b e = absurd (b n p refl)
+  unpacked claims.Legal claims.Legal a b e = refl
+  unpacked claims.Legal (claims.NotLegal t) a b e = absurd (omega arith)
+  unpacked (claims.NotLegal t) (claims.Refused n p) a b e = absurd (b n p refl)
+  unpacked (claims.NotLegal t) claims.Legal a b e = absurd (omega arith)
+  unpacked (claims.NotLegal t) (claims.NotLegal u) a b e = ap claims.NotLegal (omega arith)
+
+  c-claim-exactly : (c : Claim) → ((number place : ℕ) → c ≡ claims.Refused number place → ⊥) → ((number place : ℕ) → 1 ≤ number → number ≤ 13 → place ≤ 64 → number + 256 * place ≡ packedClaim c → ⊥)
+      → claimResult mode tasks jobs horizon schedule ≡ packedClaim c
+      ↔ (outcomeSaid (checkBytes mode tasks jobs horizon schedule) ≡ say.done) × (claimSaid (claimAnswer (givenBytes mode tasks jobs) horizon (numbers2 schedule)) ≡ claimSaid c)
+  unfolding outcomeSaid
+  c-claim-exactly c plain far = (there (checkBytes mode tasks jobs horizon schedule) refl, λ w. claim-packed (outcome-said (checkBytes mode tasks jobs horizon schedule) Done (w .0)) ∙ ap packedClaim (claim-said _ c (w .1)))
+    where
+      there : (o : Outcome) → checkBytes mode tasks jobs horizon schedule ≡ o → claimResult mode tasks jobs horizon schedule ≡ packedClaim c
+          → (outcomeSaid (checkBytes mode tasks jobs horizon schedule) ≡ say.done) × (claimSaid (claimAnswer (givenBytes mode tasks jobs) horizon (numbers2 schedule)) ≡ claimSaid c)
+      there Done ok e = (ap outcomeSaid ok, ap claimSaid (unpacked _ c (unrefused ok) plain (sym (claim-packed ok) ∙ e)))
+        where
+          unrefused : checkBytes mode tasks jobs horizon schedule ≡ Done → (number place : ℕ) → claimAnswer (givenBytes mode tasks jobs) horizon (numbers2 schedule) ≡ claims.Refused number place → ⊥
+          unrefused ok n p q = claim-not-refused (givenBytes mode tasks jobs) (numbers2 schedule) n p (sym (answer ok) ∙ q)
+            where
+              answer : checkBytes mode tasks jobs horizon schedule ≡ Done → claimAnswer (givenBytes mode tasks jobs) horizon (numbers2 schedule) ≡ claim (givenBytes mode tasks jobs) (numbers2 schedule)
+              answer ok = unfold claimAnswer in unless-done _ _ _ (spelled-fine mode tasks jobs horizon schedule ok)
+      there (Refused number place) ok e =
+          let w = c-fits mode tasks jobs horizon schedule number place ok in
+          absurd (far number place (w .0) (w .1) (w .2) (c-claim-refused mode tasks jobs horizon schedule number place ok ∙ e))
+
+  pub c-legal-exactly : claimResult mode tasks jobs horizon schedule ≡ 0
+      ↔ (outcomeSaid (checkBytes mode tasks jobs horizon schedule) ≡ say.done) × (claimSaid (claimAnswer (givenBytes mode tasks jobs) horizon (numbers2 schedule)) ≡ say.legal)
+  unfolding packedClaim claimSaid
+  c-legal-exactly = c-claim-exactly claims.Legal (λ n p e. let z : _≡_ {A = ℕ} 0 1 = cc in omega arith) (λ n p a b d e. omega arith)
+
+  pub c-not-legal-exactly : (t : ℕ) → claimResult mode tasks jobs horizon schedule ≡ 65536 + t
+      ↔ (outcomeSaid (checkBytes mode tasks jobs horizon schedule) ≡ say.done) × (claimSaid (claimAnswer (givenBytes mode tasks jobs) horizon (numbers2 schedule)) ≡ say.notLegal t)
+  unfolding packedClaim claimSaid
+  c-not-legal-exactly t = c-claim-exactly (claims.NotLegal t) (λ n p e. let z : _≡_ {A = ℕ} 0 1 = cc in omega arith) (λ n p a b d e. omega arith)

@@ -5,10 +5,10 @@ use Rattle.trials.proofs.leap.ready_now.Statement.{statement}
 use Rattle.trials.proofs.leap.ready_now.Tie as tie
 
 abbrev Inv-loop : tie.InvT-loop
-Inv-loop s tasks jobs high word₀ ones₀ p₀ word ones p = 0 ≤ 0
+Inv-loop tasks jobs s high word₀ ones₀ j₀ word ones j = 0 ≤ 0
 
 abbrev μ-loop : tie.MeasureT-loop
-μ-loop s tasks jobs high word₀ ones₀ p₀ word ones p = 64 - p
+μ-loop tasks jobs s high word₀ ones₀ j₀ word ones j = 64 - j
 
 pub ready-now-spec : {M : Type 1} → statement M
-ready-now-spec = tie.close (tie.spec Inv-loop μ-loop (λ c κs. search needs) (λ c. search needs) (λ c. search needs) (λ c κs. search needs) (λ c. search needs) (λ c. search needs) (λ c. search needs) (λ c. search needs) (λ c. search needs))
+ready-now-spec = tie.close (tie.spec Inv-loop μ-loop (λ c κs. search needs) (λ c. search needs) (λ c. search needs) (λ c. search needs) (λ c κs. search needs) (λ c κs. search needs) (λ c. search needs) (λ c. search needs) (λ c. search needs) (λ c. search needs) (λ c. search needs) (λ c. search needs) (λ c. search needs) (λ c. search needs) (λ c. search needs))

@@ -5,10 +5,10 @@ use Rattle.trials.proofs.tables.make_tasks.Statement.{statement}
 use Rattle.trials.proofs.tables.make_tasks.Tie as tie
 
 abbrev Inv-loop : tie.InvT-loop
-Inv-loop trial count tasks₀ k₀ tasks k = 0 ≤ 0
+Inv-loop trial count scale tasks₀ k₀ tasks k = 0 ≤ 0
 
 abbrev μ-loop : tie.MeasureT-loop
-μ-loop trial count tasks₀ k₀ tasks k = count - k
+μ-loop trial count scale tasks₀ k₀ tasks k = count - k
 
 pub make-tasks-spec : {M : Type 1} → statement M
 make-tasks-spec = tie.close (tie.spec Inv-loop μ-loop (λ c κs. search needs) (λ c. search needs) (λ c κs. search needs) (λ c. search needs) (λ c. search needs) (λ c. search needs) (λ c. search needs))

@@ -8,7 +8,7 @@ abbrev Inv-loop : tie.InvT-loop
 Inv-loop picture line₀ i₀ line i = 0 ≤ 0
 
 abbrev μ-loop : tie.MeasureT-loop
-μ-loop picture line₀ i₀ line i = 512 - i
+μ-loop picture line₀ i₀ line i = 16384 - i
 
 pub drawn-spec : {M : Type 1} → statement M
 drawn-spec = tie.close (tie.spec Inv-loop μ-loop (λ c κs. search needs) (λ c. search needs) (λ c κs. search needs) (λ c κs. search needs) (λ c. search needs) (λ c. search needs) (λ c. search needs) (λ c. search needs) (λ c. search needs) (λ c. search needs))

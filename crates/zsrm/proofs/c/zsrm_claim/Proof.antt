@@ -54,7 +54,6 @@ zsrm-claim-spec =
     (λ c. sym (ap length (c .before .before .before .decode2 .ensures .0) ∙ length-numbers4 _))
     claim-bytes-requires
     (λ c. search needs)
-    (λ c. let w = c-fits _ _ _ _ _ _ _ (refused (c .before)) in search needs)
-    (λ c. let w = c-fits _ _ _ _ _ _ _ (refused (c .before)) in search needs)
+    (λ c κs. let w = c-fits _ _ _ _ _ _ _ (refused (c .before)) in (w .1, w .2))
     returns
-    (λ c. c-claim-refused _ _ _ _ _ _ _ (refused (c .before))))
+    (λ c. c .packed .ensures ∙ c-claim-refused _ _ _ _ _ _ _ (refused (c .before .before))))

@@ -55,8 +55,7 @@ zsrm-run-spec =
     (λ c. sym (ap length (c .before .before .before .decode2 .ensures .0) ∙ length-numbers4 _))
     run-bytes-requires
     (λ c. search needs)
-    (λ c. let w = c-fits _ _ _ _ _ _ _ (refused (c .before)) in search needs)
-    (λ c. let w = c-fits _ _ _ _ _ _ _ (refused (c .before)) in search needs)
+    (λ c κs. let w = c-fits _ _ _ _ _ _ _ (refused (c .before)) in (w .1, w .2))
     (λ c. search needs)
     returns
-    (λ c. (c-refused _ _ _ _ _ _ _ (refused (c .before)), c-keeps _ _ _ _ _ _ _ (refused (c .before)))))
+    (λ c. (c .packed .ensures ∙ c-refused _ _ _ _ _ _ _ (refused (c .before .before)), c-keeps _ _ _ _ _ _ _ (refused (c .before .before)))))

@@ -1,4 +1,6 @@
 -- What the checks answer decides: the part of the replay, or the empty one.
+use Prim.Native.Nat.{ℕ}
+use mathlib.Core.List.{List}
 use mathlib.Core.Path.{refl, sym, subst, _∙_, _≡_}
 use native.Mathlib.Omega.{arith}
 use borrow.Author.Needs.{needs}
@@ -7,11 +9,15 @@ use Rattle.zsrm.specs.declared.record.Record.{Record}
 use Rattle.zsrm.specs.Tables.{arrival}
 use Rattle.zsrm.specs.Record.{standingAt}
 use Rattle.zsrm.specs.Code.Claims.{FitsIn}
+use Rattle.zsrm.specs.Verdict.{Part, Shows}
 use Rattle.zsrm.specs.Answers.{given, checkWitness, responseAnswer}
 use Rattle.zsrm.proofs.Laws.Answers.{unless-done, unless-refused}
 use Rattle.zsrm.proofs.Laws.Verdicts.{witnessed, part-fits, part-answer}
 use Rattle.zsrm.proofs.verdicts.response.Statement.{statement}
 use Rattle.zsrm.proofs.verdicts.response.Tie as tie
+
+shows-same : {s q : ℕ × ℕ} {p p′ : Part} {l : List ℕ} → p ≡ p′ → Shows s p q l → Shows s p′ q l
+shows-same {s} {q} {p} {p′} {l} e w = subst (λ (x : Part). Shows s x q l) e w
 
 -- the checks passed
 passed : (c : tie.After-enum-told) → checkWitness (given (c .before .before .before .before .before .before .args .mode) (c .before .before .before .before .before .before .args .tasks .now) (c .before .before .before .before .before .before .args .jobs .now)) (c .before .before .before .before .before .before .args .horizon) (c .before .before .before .before .before .before .args .schedule .now) (c .before .before .before .before .before .before .args .job) ≡ Done
@@ -35,11 +41,15 @@ returns : tie.Need-returns
 unfolding responseAnswer
 returns c =
     let a = c .before .before .before .before .before .before .before .before .before .args in
-    c .replayed-part .ensures ∙ part-answer _ (a .schedule .now) (a .job) _ (c .before .before .replay .ensures) ∙ sym (unless-done _ _ _ (passed (c .before .before .before)))
+    shows-same
+    (part-answer _ (a .schedule .now) (a .job) _ (c .before .before .replay .ensures) ∙ sym (unless-done _ _ _ (passed (c .before .before .before))))
+    (c .replayed-part .ensures)
 
 returns-2 : tie.Need-returns-2
 unfolding responseAnswer
-returns-2 c = sym (unless-refused _ _ _ _ _ (sym (c .before .before .before .check-witness .ensures _ _ refl) ∙ c .before .enum-told2 .given .1))
+returns-2 c =
+    rw (unless-refused _ _ _ _ _ (sym (c .before .before .before .check-witness .ensures _ _ refl) ∙ c .before .enum-told2 .given .1))
+    (record { holds = refl; block = refl; byte = omega arith })
 
 pub response-spec : {M : Type 1} → statement M
 response-spec = tie.close (tie.spec (λ c κs. search needs) (λ c. search needs) replay-requires replayed-part-requires (λ c. search needs) (λ c. search needs) (λ c. search needs) (λ c. search needs) returns returns-2)

@@ -1,0 +1,91 @@
+-- Every answer said in numbers, and each under its name: what the promises speak in. A refusal is its number and its place; document 01
+-- has the numbers of "done", "legal" and "not legal at t", the others are ours. Within one kind of answer equal numbers are equal answers
+-- (proofs/Laws/Said).
+use Prim.Native.Nat.{ℕ, _+_}
+use mathlib.Core.List.{List, [], _∷_}
+use Rattle.zsrm.specs.declared.record.Standing.{Standing}
+use Rattle.zsrm.specs.declared.record.Standing.the-variants as standings
+use Rattle.zsrm.specs.declared.answers.Outcome.{Outcome}
+use Rattle.zsrm.specs.declared.answers.Outcome.the-variants as outcomes
+use Rattle.zsrm.specs.declared.answers.Claim.{Claim}
+use Rattle.zsrm.specs.declared.answers.Claim.the-variants as claims
+use Rattle.zsrm.specs.declared.answers.Verdict.{Verdict}
+use Rattle.zsrm.specs.declared.answers.Verdict.the-variants as verdicts
+use Rattle.zsrm.specs.declared.answers.Witness.{Witness}
+use Rattle.zsrm.specs.declared.answers.Witness.the-variants as witnesses
+
+-- Refused with a number and a place: two numbers, in every kind of answer. Every other answer is one number.
+abbrev pub refused : ℕ → ℕ → List ℕ
+refused number place = number ∷ place ∷ []
+
+-- of a run, a step, a fresh record
+abbrev pub done : List ℕ
+done = 0 ∷ []
+
+unfoldable pub outcomeSaid : Outcome → List ℕ
+outcomeSaid outcomes.Done = done
+outcomeSaid (outcomes.Refused number place) = refused number place
+
+-- of a claim, and of a witness that is none because its schedule is not legal
+abbrev pub legal : List ℕ
+legal = 0 ∷ []
+
+abbrev pub notLegal : ℕ → List ℕ
+notLegal t = (65536 + t) ∷ []
+
+unfoldable pub claimSaid : Claim → List ℕ
+claimSaid (claims.Refused number place) = refused number place
+claimSaid claims.Legal = legal
+claimSaid (claims.NotLegal t) = notLegal t
+
+-- of a verdict
+abbrev pub met : List ℕ
+met = 0 ∷ []
+
+abbrev pub late : List ℕ
+late = 1 ∷ []
+
+abbrev pub ended : List ℕ
+ended = 2 ∷ []
+
+abbrev pub stillOpen : List ℕ
+stillOpen = 3 ∷ []
+
+unfoldable pub verdictSaid : Verdict → List ℕ
+verdictSaid (verdicts.Refused number place) = refused number place
+verdictSaid verdicts.Met = met
+verdictSaid verdicts.Late = late
+verdictSaid verdicts.Ended = ended
+verdictSaid verdicts.Open = stillOpen
+
+-- of a witness
+abbrev pub accepted : List ℕ
+accepted = 0 ∷ []
+
+abbrev pub notMissed : List ℕ
+notMissed = 1 ∷ []
+
+unfoldable pub witnessSaid : Witness → List ℕ
+witnessSaid (witnesses.Refused number place) = refused number place
+witnessSaid (witnesses.NotLegal t) = notLegal t
+witnessSaid witnesses.NotMissed = notMissed
+witnessSaid witnesses.Accepted = accepted
+
+-- The standings inside the records that runs, steps and fresh records answer: a kind and, where there is one, the instant or tick.
+abbrev pub notArrived : List ℕ
+notArrived = 0 ∷ []
+
+abbrev pub unfinished : List ℕ
+unfinished = 1 ∷ []
+
+abbrev pub finishedAt : ℕ → List ℕ
+finishedAt f = 2 ∷ f ∷ []
+
+abbrev pub endedIn : ℕ → List ℕ
+endedIn e = 3 ∷ e ∷ []
+
+unfoldable pub standingSaid : Standing → List ℕ
+standingSaid standings.NotArrived = notArrived
+standingSaid standings.Unfinished = unfinished
+standingSaid (standings.Finished f) = finishedAt f
+standingSaid (standings.Ended e) = endedIn e
