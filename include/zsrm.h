@@ -50,7 +50,10 @@
 
    An example
    ----------
-   Two tasks and three jobs, sixteen ticks:
+   Two tasks and three jobs, sixteen ticks, as a whole program:
+
+     #include <stdio.h>
+     #include "zsrm.h"
 
      static const uint32_t tasks[2 * 7] = {
           8,  8, 4,  4, 1, 2,  4,
@@ -61,14 +64,21 @@
          1, 0, 5,
          0, 8, 4,
      };
-     uint16_t schedule[16];
+     static uint16_t schedule[16];
 
-     uint32_t result = zsrm_run(ZSRM_MODE_S,
-                                (const uint8_t *)tasks, sizeof tasks,
-                                (const uint8_t *)jobs, sizeof jobs,
-                                16, (uint8_t *)schedule, sizeof schedule);
+     int main(void) {
+         uint32_t result = zsrm_run(ZSRM_MODE_S,
+                                    (const uint8_t *)tasks, sizeof tasks,
+                                    (const uint8_t *)jobs, sizeof jobs,
+                                    16, (uint8_t *)schedule, sizeof schedule);
+         if (zsrm_refused(result))
+             return (int)zsrm_refusal_number(result);
+         for (int t = 0; t < 16; t++)
+             printf("%u ", (unsigned)schedule[t]);
+         return 0;
+     }
 
-   The result is 0 and the schedule 0 0 0 0 1 1 1 1 2 2 1 2 2 and three times ZSRM_IDLE: job 1 is
+   It prints 0 0 0 0 1 1 1 1 2 2 1 2 2 and three times 65535, which is ZSRM_IDLE: job 1 is
    past its zero slack at tick 10 and more critical, so it runs though its priority is lower.
    zsrm_claim on the same lists and this schedule gives 0. With schedule[10] changed to 2 it gives
    65546: zsrm_not_legal holds, and zsrm_not_legal_tick is 10.

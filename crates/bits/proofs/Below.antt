@@ -2,11 +2,11 @@
 -- A law by the name of a definition and -same says that tests that agree below the bound give it one answer.
 use Prim.Native.Nat.{_+_, _-_, _<_, suc, zero, ℕ, _≤_}
 use mathlib.Core.Bool.{_&&_, Bool, cond, false, false≢true, true, _||_}
-use mathlib.Core.List.{_++_, List, [], _∷_}
+use mathlib.Core.List.{List, _∷_}
 use mathlib.Core.Logic.{inl, inr, _⊎_}
 use mathlib.Core.Path.{ap, ap₂, refl, subst, sym, _∙_, _≡_}
 use native.Mathlib.Decide.{ℕ-discrete}
-use native.Mathlib.Nat.{add-suc, add-zero, not-suc-le-zero, suc-add}
+use native.Mathlib.Nat.{not-suc-le-zero}
 use native.Mathlib.Numerals.{add-one}
 use native.Mathlib.Omega.{arith}
 use lib.ListN.{getD, length}
@@ -159,18 +159,6 @@ module _ {A : Type 0} where
 
   pub getD-list : (n : ℕ) (f : ℕ → A) (k : ℕ) (d : A) → k < n → getD (listFrom 0 n f) k d ≡ f k
   getD-list n f k d h = getD-listFrom 0 n f k d h ∙ ap f (omega arith)
-
-module _ {A : Type 0} (f : ℕ → A) where
-  -- a list that a loop writes place by place (`take-suc-set` of lib.Seq has the other side)
-  listFrom-snoc : (i n : ℕ) → listFrom i (suc n) f ≡ listFrom i n f ++ (f (i + n) ∷ [])
-  unfolding listFrom
-  listFrom-snoc i zero = ap {B = List A} (λ (k : ℕ). f k ∷ []) (sym (add-zero i))
-  listFrom-snoc i (suc n) =
-      ap {B = List A} (λ l. f i ∷ l) (listFrom-snoc (suc i) n)
-      ∙ ap {B = List A} (λ (k : ℕ). f i ∷ (listFrom (suc i) n f ++ (f k ∷ []))) (suc-add i n ∙ sym (add-suc i n))
-
-  pub list-snoc : (n : ℕ) → listFrom 0 (suc n) f ≡ listFrom 0 n f ++ (f n ∷ [])
-  list-snoc n = listFrom-snoc 0 n ∙ ap {B = List A} (λ (k : ℕ). listFrom 0 n f ++ (f k ∷ [])) (omega arith)
 
 -- an upward search as a loop meets it: none below j passes, and b tells whether j does
 module _ (f : ℕ → Bool) where

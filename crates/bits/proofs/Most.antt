@@ -3,15 +3,13 @@
 use Prim.Native.Nat.{ℕ, zero, suc, _≤_, _<_}
 use mathlib.Core.Path.{_≡_, sym, ap, _∙_}
 use mathlib.Core.Logic.{_⊎_, inl, inr}
-use mathlib.Core.Bool.{Bool, true, false, _&&_}
+use mathlib.Core.Bool.{Bool, true, false}
 use native.Mathlib.Omega.{arith}
 use native.Mathlib.Decide.{decLe}
 use native.Mathlib.Nat.{not-suc-le-zero, le-of-eq, le-trans}
-use lib.Dec.{ltb}
-use borrow.Author.Tests.{ltb-true, lt-ltb, le-ltb}
-use Rattle.bits.specs.Below.{some, greatest}
-use Rattle.bits.proofs.Bools.{either, clash, and-left, and-right, and-true, same-test, fails}
-use Rattle.bits.proofs.Below.{some-true, some-found, last-or-below, greatest-skip, greatest-here}
+use Rattle.bits.specs.Below.{greatest}
+use Rattle.bits.proofs.Bools.{either, clash, fails}
+use Rattle.bits.proofs.Below.{last-or-below, greatest-skip, greatest-here}
 
 module _ (f : ℕ → Bool) (key : ℕ → ℕ) where
   -- k passes, and whatever passes below n has no greater key
@@ -66,26 +64,6 @@ module _ (f : ℕ → Bool) (key : ℕ → ℕ) where
       go : Searched n → (k : ℕ) × Most n k
       go (inl w) = w
       go (inr none) = clash p (none j h)
-
-  -- to compare with the key of each that passes is to compare with the greatest
-  pub some-above : (n k x : ℕ) → Most n k → some n (λ i. f i && ltb x (key i)) ≡ ltb x (key k)
-  some-above n k x w = same-test (some n above) (ltb x (key k)) there back
-    where
-      above : ℕ → Bool
-      above i = f i && ltb x (key i)
-
-      there : some n above ≡ true → ltb x (key k) ≡ true
-      there s =
-          let y = some-found above n s in
-          let high : x < key (y .0) = ltb-true x (key (y .0)) (and-right (f (y .0)) _ (y .2)) in
-          lt-ltb x (key k) (omega (arith, w .tops (y .0) (y .1) (and-left (f (y .0)) _ (y .2))))
-
-      back : ltb x (key k) ≡ true → some n above ≡ true
-      back h = some-true above n k (w .below) (and-true (w .passes) h)
-
-  -- so no number that passes has a greater key
-  pub none-greater : (n k : ℕ) → Most n k → some n (λ i. f i && ltb (key k) (key i)) ≡ false
-  none-greater n k w = some-above n k (key k) w ∙ le-ltb (key k) (key k) (omega arith)
 
 module _ (f : ℕ → Bool) where
   -- with its own number for a key, the one with the greatest key is the greatest number that passes

@@ -70,11 +70,7 @@ word-low w (suc n) =
 pub word-bits : (w n : ℕ) → w < 2 ^ n → word n (bit w) ≡ w
 word-bits w n l = word-low w n ∙ mod-eq-of-lt l
 
--- so two of them with the same bits are one
-pub words-same : (v w n : ℕ) → v < 2 ^ n → w < 2 ^ n → ((p : ℕ) → p < n → bit v p ≡ bit w p) → v ≡ w
-words-same v w n h k q = sym (word-bits v n h) ∙ word-same (bit v) (bit w) n q ∙ word-bits w n k
-
--- and tests that make one word agree below n
+-- tests that make one word agree below n
 pub word-tells : (f h : ℕ → Bool) (n p : ℕ) → word n f ≡ word n h → p < n → f p ≡ h p
 unfolding word
 word-tells f h zero p e l = absurd (not-suc-le-zero l)

@@ -6,11 +6,10 @@ use Rattle.bits.specs.Below.{count, every, greatest, least, listFrom, some}
 use Rattle.decimal.specs.Decimal.{asNumber, decimal, digits, leading, numberAt, size, spelled}
 use Rattle.sheet.specs.Grammar.{fieldAt, firstLine, numbersFrom, parsedOf}
 use Rattle.sheet.specs.Listing.{behindFirst, entry, givenListing, instant, jobLine, jobLines, line, listing, longest, longestFrom, printed, refusedLine, runLine, runListing, stretch, stretchLines, stretches, verdictLine, word}
-use Rattle.zsrm.specs.Answers.{checkGiven, unless}
 use Rattle.zsrm.specs.Record.{arrived, arriving, doneAt, fresh, freshPlace, opening, placeAt, standingAt}
-use Rattle.zsrm.specs.Refusals.{ascending, before, check2, check3, check4, check5, check6, check7, check8, check9, checkJobs, checkLists, checkTasks, outside, preceding, refuse}
-use Rattle.zsrm.specs.Run.{entries, entriesBy, final, replay, runEntries, runRecord}
-use Rattle.zsrm.specs.Tables.{arrival, criticality, deadline, deadlineInstant, execution, jobCount, jobCriticality, jobNominal, jobPriority, nominal, overload, period, priority, taskCount, taskOf, zeroSlack, zeroSlackInstant}
+use Rattle.tables.specs.Refusals.{ascending, before, check2, check3, check4, check5, check6, check7, check8, check9, checkJobs, checkLists, checkTasks, outside, preceding, refuse, unless}
+use Rattle.zsrm.specs.Run.{entriesBy, replay, runEntries, runRecord, finalBy}
+use Rattle.tables.specs.Tables.{arrival, criticality, deadline, deadlineInstant, execution, jobCount, jobCriticality, jobNominal, jobPriority, nominal, overload, period, priority, taskCount, taskOf, offset, zeroSlackInstant}
 use Rattle.zsrm.specs.Tick.{advanced, alive, candidate, choice, doneAfter, eligible, ends, finishes, goesOn, higherPriority, moreCritical, over, pastZeroSlack, placeAfter, someJob, standingAfter, suspended}
 use Rattle.zsrm.specs.Verdict.{verdict}
 
@@ -67,5 +66,5 @@ table =
     ∷ []
 
 pub examples : map (λ r. listing (text r)) table ≡ map shown table
-unfolding some every least greatest count taskCount period deadline nominal overload criticality priority zeroSlack jobCount taskOf arrival execution jobCriticality jobPriority jobNominal zeroSlackInstant deadlineInstant refuse before ascending outside check2 check3 check4 checkTasks check5 preceding check6 check7 check8 checkJobs checkLists check9 placeAt doneAt standingAt arriving arrived opening freshPlace fresh alive someJob moreCritical higherPriority pastZeroSlack suspended eligible candidate choice doneAfter over ends finishes goesOn standingAfter placeAfter advanced replay entriesBy entries final runEntries runRecord verdict unless checkGiven listFrom leading spelled asNumber numberAt digits size decimal fieldAt numbersFrom firstLine parsedOf behindFirst line refusedLine runLine entry longestFrom longest stretch stretchLines stretches word instant verdictLine jobLine jobLines printed runListing givenListing listing
+unfolding some every least greatest count taskCount period deadline nominal overload criticality priority offset jobCount taskOf arrival execution jobCriticality jobPriority jobNominal zeroSlackInstant deadlineInstant refuse before ascending outside check2 check3 check4 checkTasks check5 preceding check6 check7 check8 checkJobs checkLists check9 placeAt doneAt standingAt arriving arrived opening freshPlace fresh alive someJob moreCritical higherPriority pastZeroSlack suspended eligible candidate choice doneAfter over ends finishes goesOn standingAfter placeAfter advanced replay entriesBy finalBy runEntries runRecord verdict unless listFrom leading spelled asNumber numberAt digits size decimal fieldAt numbersFrom firstLine parsedOf behindFirst line refusedLine runLine entry longestFrom longest stretch stretchLines stretches word instant verdictLine jobLine jobLines printed runListing givenListing listing
 examples = refl

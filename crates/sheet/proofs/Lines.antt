@@ -14,21 +14,18 @@ use Rattle.decimal.specs.declared.Written.{Written}
 use Rattle.decimal.specs.declared.Written.the-variants.{NoRoom, To}
 use Rattle.decimal.specs.Decimal.{after, decimal, size, writtenAt}
 use Rattle.decimal.proofs.Writing.{length-digits, size-most, told-no-room, told-to}
-use Rattle.zsrm.specs.declared.tables.Mode.{Mode}
-use Rattle.zsrm.specs.declared.tables.Mode.the-variants.{S, SE}
+use Rattle.zsrm.specs.declared.mode.Mode.{Mode}
+use Rattle.zsrm.specs.declared.mode.Mode.the-variants.{S, SE}
 use Rattle.zsrm.specs.declared.record.Standing.{Standing}
 use Rattle.zsrm.specs.declared.record.Standing.the-variants.{NotArrived, Unfinished, Finished, Ended}
 use Rattle.zsrm.specs.declared.answers.Verdict.{Verdict}
-use Rattle.zsrm.specs.declared.answers.Verdict.the-variants as verdicts
 use Rattle.sheet.specs.Listing.{behindFirst, line, word, instant, verdictLine, letter, entry, longest, longestFrom, refusedLine, runLine, stretch, stretchLines, stretches}
 use Rattle.sheet.specs.Wrote.{Wrote}
 use Rattle.sheet.proofs.Numbers.{sets-sets}
+use Rattle.zsrm.specs.declared.answers.Verdict.the-variants as verdicts
 
 pub wrote-none : (l : List ℕ) (at : ℕ) → Wrote l at [] l at
 wrote-none l at = record { next-is = omega arith; after-is = refl }
-
-pub wrote-one : (l : List ℕ) (at b : ℕ) → Wrote l at (b ∷ []) (set l at b) (at + 1)
-wrote-one l at b = record { next-is = omega arith; after-is = refl }
 
 pub wrote-more : {l m r xs ys : List ℕ} {at k n : ℕ} → Wrote l at xs m k → Wrote m k ys r n → Wrote l at (xs ++ ys) r n
 wrote-more {l} {m} {r} {xs} {ys} {at} {k} {n} v w =

@@ -6,7 +6,6 @@ use native.Mathlib.Omega.{arith}
 use native.Mathlib.Decide.{decLe}
 use lib.ListN.{length, take}
 use lib.Seq.{length-take-le, take-all}
-use Rattle.zsrm.specs.Answers.{given}
 use Rattle.sheet.specs.declared.input.Sheet.{Sheet}
 use Rattle.sheet.specs.Grammar.{Parsed, malformed, parsed, parsedOf}
 use Rattle.sheet.specs.Listing.{givenListing, listing, parsedListing, refusedLine}
@@ -14,6 +13,7 @@ use Rattle.sheet.specs.Wrote.{Wrote}
 use Rattle.sheet.proofs.Lines.{wrote-length}
 use Rattle.sheet.proofs.Runs.{given-length, refused-length}
 use Rattle.sheet.proofs.Told.{Told, long}
+use Rattle.zsrm.specs.Given.{given}
 
 pub listing-malformed : (s : List ℕ) → parsedOf s ≡ malformed → refusedLine 14 0 ≡ listing s
 unfolding listing

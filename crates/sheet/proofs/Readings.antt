@@ -12,15 +12,15 @@ use lib.ListN.{getD, length}
 use borrow.Author.Tests.{eqb-false, eqb-true}
 use Rattle.bits.proofs.Below.{last-or-below}
 use Rattle.bits.proofs.Bools.{by-cond}
-use Rattle.zsrm.specs.declared.answers.Outcome.the-variants.{Done}
-use Rattle.zsrm.specs.Answers.{checkGiven}
-use Rattle.zsrm.specs.Refusals.{before, check9}
+use Rattle.tables.specs.declared.outcome.Outcome.the-variants.{Done}
+use Rattle.tables.specs.Refusals.{before, check9, checkLists}
 use Rattle.zsrm.specs.Run.{runEntries, runRecord}
-use Rattle.zsrm.specs.Tables.{Given, idle, jobCount}
-use Rattle.zsrm.proofs.Laws.Answers.{unless-done}
+use Rattle.tables.specs.Tables.{idle, jobCount}
 use Rattle.zsrm.proofs.Laws.Run.{length-run}
 use Rattle.sheet.specs.Grammar.{parsed, parsedOf}
 use Rattle.sheet.specs.Listing.{Stretch, givenListing, jobLines, listing, longest, longestFrom, printed, refusedLine, runLine, runListing, stretchLines, stretches}
+use Rattle.zsrm.specs.Given.{Given}
+use Rattle.tables.proofs.Laws.Refusals.{unless-done}
 
 -- stretch k of a list, from 0
 abbrev pub stretchAt : List Stretch → ℕ → Stretch
@@ -193,12 +193,12 @@ run-reads g horizon ss =
     subst (λ (b : ℕ). longest (runEntries g horizon) ≡ ss ↔ Longest (runEntries g horizon) 0 ss b) (length-run g horizon) (longest-reads (runEntries g horizon) ss)
 
 -- Of a text that is not refused the listing is line 1, then the lines of these stretches in their order, then the jobs.
-pub listing-reads : (text : List ℕ) (g : Given) (horizon : ℕ) → parsedOf text ≡ parsed (g .mode) horizon (g .tasks) (g .jobs)
-    → before (checkGiven g) (check9 horizon) ≡ Done
+pub listing-reads : (text : List ℕ) (g : Given) (horizon : ℕ) → parsedOf text ≡ parsed (g .mode) horizon (g .lists .tasks) (g .lists .jobs)
+    → before (checkLists (g .lists)) (check9 horizon) ≡ Done
     → (ss : List Stretch)
     × Longest (runEntries g horizon) 0 ss horizon
-    × (listing text ≡ runLine (g .mode) horizon ++ (stretchLines ss ++ jobLines g (runRecord g horizon) (jobCount (g .jobs))))
+    × (listing text ≡ runLine (g .mode) horizon ++ (stretchLines ss ++ jobLines g (runRecord g horizon) (jobCount (g .lists .jobs))))
 unfolding listing givenListing runListing printed stretches
 listing-reads text g horizon p accepts =
-    let runs = unless-done refusedLine (runListing g horizon) (before (checkGiven g) (check9 horizon)) accepts in
+    let runs = unless-done refusedLine (runListing g horizon) (before (checkLists (g .lists)) (check9 horizon)) accepts in
     (longest (runEntries g horizon), run-reads g horizon _ .0 refl, rw (p, runs))

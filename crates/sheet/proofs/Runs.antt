@@ -7,40 +7,40 @@ use native.Mathlib.Numerals.{add-one}
 use native.Mathlib.Omega.{arith}
 use lib.ListN.{length, length-append}
 use borrow.Author.Tests.{ltb-false}
-use Rattle.zsrm.specs.declared.answers.Outcome.{Outcome}
-use Rattle.zsrm.specs.declared.answers.Outcome.the-variants.{Done, Refused}
+use Rattle.tables.specs.declared.outcome.Outcome.{Outcome}
+use Rattle.tables.specs.declared.outcome.Outcome.the-variants.{Done, Refused}
 use Rattle.zsrm.specs.declared.answers.Ran.{Ran}
 use Rattle.zsrm.specs.declared.answers.Verdict.{Verdict}
 use Rattle.zsrm.specs.declared.record.Record.{Record}
 use Rattle.zsrm.specs.declared.record.Standing.{Standing}
-use Rattle.zsrm.specs.declared.tables.Mode.{Mode}
-use Rattle.zsrm.specs.Answers.{checkGiven, checkSchedule, given, runAnswer, runSchedule, unless, verdictAnswer}
+use Rattle.zsrm.specs.declared.mode.Mode.{Mode}
+use Rattle.zsrm.specs.Answers.{checkSchedule, runAnswer, runSchedule, verdictAnswer}
 use Rattle.zsrm.specs.Record.{consistent, standingAt}
-use Rattle.zsrm.specs.Refusals.{before, check9, checkLists, checkTasks}
+use Rattle.tables.specs.Refusals.{before, check9, checkLists, unless}
 use Rattle.zsrm.specs.Run.{runEntries, runRecord}
-use Rattle.zsrm.specs.Tables.{Given, jobCount}
+use Rattle.tables.specs.Tables.{jobCount, lists}
 use Rattle.zsrm.specs.Verdict.{verdict}
-use Rattle.zsrm.proofs.Laws.Accepted.{few-jobs}
-use Rattle.zsrm.proofs.Laws.Answers.{accepted, accepted-lists, run-given, run-outcome, schedule-checked, unless-done, unless-refused, verdict-answered}
+use Rattle.zsrm.proofs.Laws.Answers.{accepted, run-given, run-outcome, schedule-checked, verdict-answered}
 use Rattle.zsrm.proofs.Laws.Promises.{ran-consistent}
-use Rattle.zsrm.proofs.Laws.Refusals.{before-first, before-second, refuse-fine}
+use Rattle.tables.proofs.Laws.Refusals.{before-first, before-second, refuse-fine, unless-done, unless-refused}
 use Rattle.zsrm.proofs.Laws.Run.{length-run}
 use Rattle.sheet.specs.Listing.{behindFirst, givenListing, jobLine, jobLines, verdictLine, line, printed, refusedLine, runLine, runListing, stretches}
 use Rattle.sheet.specs.Wrote.{Wrote}
 use Rattle.sheet.specs.Code.{Sound}
 use Rattle.sheet.proofs.Lines.{decimal-length, head-length, job-length, stretches-length, wrote-length, wrote-more}
+use Rattle.zsrm.specs.Given.{Given, given}
+use Rattle.tables.proofs.Laws.Accepted.{lists-few}
 
 module _ {mode : Mode} {tasks jobs : List ℕ} {r : Record} (w : Sound mode tasks jobs r) where
   pub few : jobCount jobs ≤ 64
-  unfolding checkLists
-  few = few-jobs tasks jobs (before-second (checkTasks tasks) _ (w .lists))
+  few = lists-few (lists tasks jobs) (w .lists)
 
   -- a job's line, with the verdict that the library answers
   pub job-line : (j : ℕ) {v : Verdict} {s : Standing} → j < jobCount jobs → v ≡ verdictAnswer (given mode tasks jobs) r j → s ≡ standingAt r j
       → verdictLine j v s ≡ jobLine (given mode tasks jobs) r j
-  unfolding jobLine checkGiven
+  unfolding jobLine
   job-line j {v} {s} l p q =
-      let e : v ≡ verdict (given mode tasks jobs) r j = p ∙ verdict-answered (given mode tasks jobs) (w .lists) r (w .sound) j l in
+      let e : v ≡ verdict (lists tasks jobs) r j = p ∙ verdict-answered (given mode tasks jobs) (w .lists) r (w .sound) j l in
       rw (e, q)
 
 module _ (g : Given) (r : Record) where
@@ -51,7 +51,7 @@ module _ (g : Given) (r : Record) where
   pub jobs-length : (n : ℕ) → length (jobLines g r n) ≤ 32 * n
   unfolding jobLines jobLine
   jobs-length zero = omega arith
-  jobs-length (suc n) = simp length-append (omega (arith, jobs-length n, job-length n (verdict g r n) (standingAt r n)))
+  jobs-length (suc n) = simp length-append (omega (arith, jobs-length n, job-length n (verdict (g .lists) r n) (standingAt r n)))
 
 -- 600,000 bytes are room enough: 17 for line 1, 33 for each of 16,384 ticks, 32 for each of 64 jobs
 module _ (mode : Mode) (horizon : ℕ) (es : List ℕ) (few : length es ≤ 16384) {l m : List ℕ} {k : ℕ} (room : 600000 ≤ length l) (v : Wrote l 0 (runLine mode horizon) m k) where
@@ -64,20 +64,20 @@ module _ (mode : Mode) (horizon : ℕ) (es : List ℕ) (few : length es ≤ 1638
 
 -- what the library's run answers, and what is printed for it
 module _ (g : Given) (horizon : ℕ) (lent : List ℕ) {r : Ran} (is : r ≡ runAnswer g horizon lent) where
-  checked : r .outcome ≡ checkSchedule g horizon lent
+  checked : r .outcome ≡ checkSchedule (g .lists) horizon (length lent)
   checked = ap (λ (x : Ran). x .outcome) is ∙ run-outcome g horizon lent
 
   module _ (done : r .outcome ≡ Done) where
-    accepts : checkSchedule g horizon lent ≡ Done
+    accepts : checkSchedule (g .lists) horizon (length lent) ≡ Done
     accepts = sym checked ∙ done
 
     recorded : r .«record» ≡ runRecord g horizon
     recorded = ap (λ (x : Ran). x .«record») is ∙ run-given g horizon lent accepts .0
 
-    pub ran-judged : Sound (g .mode) (g .tasks) (g .jobs) (r .«record»)
+    pub ran-judged : Sound (g .mode) (g .lists .tasks) (g .lists .jobs) (r .«record»)
     ran-judged =
         record {
-          lists = accepted-lists g horizon lent (accepted g horizon lent accepts);
+          lists = accepted (g .lists) horizon (length lent) accepts .lists;
           sound = ap (λ (x : Ran). consistent g (x .«record»)) is ∙ ran-consistent g horizon lent accepts;
         }
 
@@ -86,37 +86,37 @@ module _ (g : Given) (horizon : ℕ) (lent : List ℕ) {r : Ran} (is : r ≡ run
       wrote-entries = writes ∙ run-given g horizon lent accepts .1
 
       pub ran-short : length es ≤ 16384
-      ran-short = omega (arith, ap length wrote-entries, length-run g horizon, accepted g horizon lent accepts .bounded)
+      ran-short = omega (arith, ap length wrote-entries, length-run g horizon, accepted (g .lists) horizon (length lent) accepts .bounded)
 
       pub ran-listing : (length lent ≡ horizon) ⊎ (16384 < horizon)
           → printed g horizon es (r .«record») ≡ givenListing g horizon
       unfolding givenListing runListing
       ran-listing fits =
-          let e = unless-done refusedLine (runListing g horizon) (before (checkGiven g) (check9 horizon)) (sym (schedule-checked g horizon lent fits) ∙ accepts) in
+          let e = unless-done refusedLine (runListing g horizon) (before (checkLists (g .lists)) (check9 horizon)) (sym (schedule-checked (g .lists) horizon (length lent) fits) ∙ accepts) in
           rw (e, wrote-entries, recorded)
 
   pub refused-listing : (number place : ℕ) → r .outcome ≡ Refused number place → (length lent ≡ horizon) ⊎ (16384 < horizon) → refusedLine number place ≡ givenListing g horizon
   unfolding givenListing
   refused-listing number place e fits =
-      sym (unless-refused refusedLine (runListing g horizon) (before (checkGiven g) (check9 horizon)) number place (sym (schedule-checked g horizon lent fits) ∙ sym checked ∙ e))
+      sym (unless-refused refusedLine (runListing g horizon) (before (checkLists (g .lists)) (check9 horizon)) number place (sym (schedule-checked (g .lists) horizon (length lent) fits) ∙ sym checked ∙ e))
 
 -- how long a listing is
 pub refused-length : (number place : ℕ) → length (refusedLine number place) ≤ 30
 unfolding refusedLine line behindFirst
 refused-length number place = simp length-append (omega (arith, decimal-length number, decimal-length place))
 
-run-length : (g : Given) (horizon : ℕ) → horizon ≤ 16384 → jobCount (g .jobs) ≤ 64 → length (runListing g horizon) ≤ 542737
+run-length : (g : Given) (horizon : ℕ) → horizon ≤ 16384 → jobCount (g .lists .jobs) ≤ 64 → length (runListing g horizon) ≤ 542737
 unfolding runListing printed
 run-length g horizon h j =
     simp length-append
-    (omega (arith, head-length (g .mode) horizon, stretches-length (runEntries g horizon), length-run g horizon, jobs-length g (runRecord g horizon) (jobCount (g .jobs))))
+    (omega (arith, head-length (g .mode) horizon, stretches-length (runEntries g horizon), length-run g horizon, jobs-length g (runRecord g horizon) (jobCount (g .lists .jobs))))
 
 pub given-length : (g : Given) (horizon : ℕ) → length (givenListing g horizon) ≤ 542737
-unfolding givenListing unless check9 checkGiven checkLists
-given-length g horizon = by-check (before (checkLists (g .tasks) (g .jobs)) (check9 horizon)) refl
+unfolding givenListing unless check9
+given-length g horizon = by-check (before (checkLists (g .lists)) (check9 horizon)) refl
   where
-    by-check : (o : Outcome) → before (checkLists (g .tasks) (g .jobs)) (check9 horizon) ≡ o → length (unless o refusedLine (runListing g horizon)) ≤ 542737
+    by-check : (o : Outcome) → before (checkLists (g .lists)) (check9 horizon) ≡ o → length (unless o refusedLine (runListing g horizon)) ≤ 542737
     by-check Done e =
-        run-length g horizon (ltb-false 16384 horizon (refuse-fine _ _ _ (before-second (checkLists (g .tasks) (g .jobs)) _ e)))
-        (few-jobs (g .tasks) (g .jobs) (before-second (checkTasks (g .tasks)) _ (before-first (checkLists (g .tasks) (g .jobs)) _ e)))
+        run-length g horizon (ltb-false 16384 horizon (refuse-fine _ _ _ (before-second (checkLists (g .lists)) _ e)))
+        (lists-few (g .lists) (before-first (checkLists (g .lists)) _ e))
     by-check (Refused number place) e = omega (arith, refused-length number place)

@@ -10,7 +10,7 @@ use lib.Dec.{leb, eqb}
 use borrow.Author.Tests.{eq-eqb, ne-eqb, leb-true}
 use Rattle.bits.proofs.Bools.{and-left, and-right}
 use Rattle.decimal.specs.declared.Number.the-variants.{Value, Malformed}
-use Rattle.zsrm.specs.declared.tables.Mode.{Mode}
+use Rattle.zsrm.specs.declared.mode.Mode.{Mode}
 use Rattle.sheet.specs.declared.input.Head.the-variants.{Heading, NoHead}
 use Rattle.sheet.specs.Grammar.{isMode, modeOf, fieldAt, firstLine, got, bad, numbersFrom, parsed, malformed, parsedOf}
 use Rattle.sheet.specs.Code.{noJobs, noTasks, nothing, sheetOf}

@@ -6,19 +6,20 @@ use mathlib.Core.List.{List}
 use mathlib.Core.Path.{_≡_}
 use lib.ListN.{length, replicate}
 use lib.Seq.{sets}
-use Rattle.zsrm.specs.declared.answers.Outcome.the-variants.{Done}
+use Rattle.tables.specs.declared.outcome.Outcome.the-variants.{Done}
 use Rattle.zsrm.specs.declared.record.Record.{Record}
-use Rattle.zsrm.specs.declared.tables.Mode.{Mode}
-use Rattle.zsrm.specs.declared.tables.Mode.the-variants.{S}
-use Rattle.zsrm.specs.Answers.{given}
+use Rattle.zsrm.specs.declared.mode.Mode.{Mode}
+use Rattle.zsrm.specs.declared.mode.Mode.the-variants.{S}
 use Rattle.zsrm.specs.Record.{consistent}
-use Rattle.zsrm.specs.Refusals.{checkLists}
+use Rattle.tables.specs.Refusals.{checkLists}
+use Rattle.tables.specs.Tables.{lists}
 use Rattle.sheet.specs.declared.input.Head.{Head}
 use Rattle.sheet.specs.declared.input.Head.the-variants.{Heading, NoHead}
 use Rattle.sheet.specs.declared.input.Next.{Next}
 use Rattle.sheet.specs.declared.input.Next.the-variants.{At, Broken}
 use Rattle.sheet.specs.declared.input.Sheet.{Sheet}
 use Rattle.sheet.specs.Grammar.{Numbers, Parsed, bad, got, malformed, parsed, parsedOf}
+use Rattle.zsrm.specs.Given.{given}
 
 -- room for 16 tasks and for 64 jobs, all zeros
 unfoldable pub noTasks : List ℕ
@@ -61,5 +62,5 @@ Few NoHead = Unit {0}
 
 -- lists that no check refuses, and a record that is consistent with them: each of their jobs has a verdict
 pub record Sound (mode : Mode) (tasks jobs : List ℕ) (r : Record) : Type 0 where
-  pub lists : checkLists tasks jobs ≡ Done
+  pub lists : checkLists (lists tasks jobs) ≡ Done
   pub sound : consistent (given mode tasks jobs) r ≡ true

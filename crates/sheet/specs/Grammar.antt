@@ -9,8 +9,8 @@ use lib.Dec.{leb, eqb}
 use Rattle.decimal.specs.declared.Number.{Number}
 use Rattle.decimal.specs.declared.Number.the-variants.{Value, Malformed}
 use Rattle.decimal.specs.Decimal.{numberAt}
-use Rattle.zsrm.specs.declared.tables.Mode.{Mode}
-use Rattle.zsrm.specs.declared.tables.Mode.the-variants.{S, SE}
+use Rattle.zsrm.specs.declared.mode.Mode.{Mode}
+use Rattle.zsrm.specs.declared.mode.Mode.the-variants.{S, SE}
 use Rattle.sheet.specs.declared.input.Head.{Head}
 use Rattle.sheet.specs.declared.input.Head.the-variants.{Heading, NoHead}
 

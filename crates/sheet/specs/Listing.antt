@@ -4,20 +4,20 @@ use mathlib.Core.Bool.{cond}
 use mathlib.Core.List.{List, [], _∷_, _++_}
 use lib.Dec.{eqb}
 use Rattle.decimal.specs.Decimal.{decimal}
-use Rattle.zsrm.specs.declared.tables.Mode.{Mode}
-use Rattle.zsrm.specs.declared.tables.Mode.the-variants.{S, SE}
+use Rattle.zsrm.specs.declared.mode.Mode.{Mode}
+use Rattle.zsrm.specs.declared.mode.Mode.the-variants.{S, SE}
 use Rattle.zsrm.specs.declared.record.Record.{Record}
 use Rattle.zsrm.specs.declared.record.Standing.{Standing}
 use Rattle.zsrm.specs.declared.record.Standing.the-variants.{NotArrived, Unfinished, Finished, Ended}
 use Rattle.zsrm.specs.declared.answers.Verdict.{Verdict}
-use Rattle.zsrm.specs.declared.answers.Verdict.the-variants as verdicts
-use Rattle.zsrm.specs.Tables.{Given, idle, jobCount}
-use Rattle.zsrm.specs.Refusals.{before, check9}
+use Rattle.tables.specs.Tables.{idle, jobCount}
+use Rattle.tables.specs.Refusals.{before, check9, checkLists, unless}
 use Rattle.zsrm.specs.Record.{standingAt}
 use Rattle.zsrm.specs.Run.{runEntries, runRecord}
 use Rattle.zsrm.specs.Verdict.{verdict}
-use Rattle.zsrm.specs.Answers.{given, unless, checkGiven}
 use Rattle.sheet.specs.Grammar.{Parsed, parsed, malformed, parsedOf}
+use Rattle.zsrm.specs.Given.{Given, given}
+use Rattle.zsrm.specs.declared.answers.Verdict.the-variants as verdicts
 
 -- the words behind a line's first, a space before each, and the newline
 unfoldable pub behindFirst : List (List ℕ) → List ℕ
@@ -101,7 +101,7 @@ verdictLine j verdict standing = line (106 ∷ 111 ∷ 98 ∷ []) (decimal j ∷
 module _ (g : Given) where
   -- the line of job j from a record
   unfoldable pub jobLine : Record → ℕ → List ℕ
-  jobLine r j = verdictLine j (verdict g r j) (standingAt r j)
+  jobLine r j = verdictLine j (verdict (g .lists) r j) (standingAt r j)
 
   -- the lines of the first n jobs
   unfoldable pub jobLines : Record → ℕ → List ℕ
@@ -110,7 +110,7 @@ module _ (g : Given) where
 
   -- what is printed of entries and the record that they end with: line 1, the stretches, the jobs
   unfoldable pub printed : ℕ → List ℕ → Record → List ℕ
-  printed horizon es r = runLine (g .mode) horizon ++ (stretches es ++ jobLines r (jobCount (g .jobs)))
+  printed horizon es r = runLine (g .mode) horizon ++ (stretches es ++ jobLines r (jobCount (g .lists .jobs)))
 
   -- what is printed of our run
   unfoldable pub runListing : ℕ → List ℕ
@@ -118,7 +118,7 @@ module _ (g : Given) where
 
   -- the refusals of the lists and of the horizon, lowest first, or the run
   unfoldable pub givenListing : ℕ → List ℕ
-  givenListing horizon = unless (before (checkGiven g) (check9 horizon)) refusedLine (runListing horizon)
+  givenListing horizon = unless (before (checkLists (g .lists)) (check9 horizon)) refusedLine (runListing horizon)
 
 -- A malformed text is 14, before all else.
 abbrev pub parsedListing : Parsed → List ℕ

@@ -7,9 +7,11 @@ ghost use Rattle.decimal.specs.Decimal.{decimal};
 ghost use Rattle.sheet.specs.Listing.{entry, instant, jobLine, jobLines, verdictLine, letter, line, refusedLine, runLine, stretch, stretches, word};
 ghost use Rattle.sheet.specs.Wrote.{Wrote};
 ghost use Rattle.sheet.specs.Code.{Sound};
-ghost use Rattle.zsrm.specs.Tables.{jobCount};
-ghost use Rattle.zsrm.specs.Answers.{given};
+ghost use Rattle.tables.specs.Tables.{jobCount};
+ghost use Rattle.zsrm.specs.Given.{given};
+ghost use Rattle.zsrm.specs.Verdict.{verdict};
 use decimal::Written;
+use zsrm::IDLE;
 use zsrm::Mode;
 use zsrm::Record;
 use zsrm::Standing;
@@ -62,7 +64,7 @@ fn put_entry(out: &mut [u8], at: usize, e: u16) -> usize
     requires { ⌜ at + 10 ≤ length (now out) ⌝ }
     ensures { λ r. ⌜ Wrote (now (out .entry)) at (entry e) (now (out .exit)) r ⌝ }
 {
-    if e == 65535 {
+    if e == IDLE {
         put_byte(out, at, b'-')
     } else {
         put_number(out, at, e as u32)

@@ -1,5 +1,6 @@
-// The library's answers as numbers, so that they can be compared and printed. A refusal is 1,000,000 more than its number and 256 times
-// its place.
+// The library's answers as numbers, so that they can be compared, counted and printed: each answer of a call its own small number, a part
+// that is shown NUMBERED and its length, a claim that is not legal NUMBERED and its tick, a refusal REFUSED, its number and 256 times its
+// place.
 use zsrm::Claim;
 use zsrm::Mode;
 use zsrm::Outcome;
@@ -7,21 +8,40 @@ use zsrm::Standing;
 use zsrm::Verdict;
 use zsrm::Witness;
 
+pub(crate) const DONE: u64 = 0;
+
+pub(crate) const LEGAL: u64 = 0;
+
+pub(crate) const MET: u64 = 0;
+
+pub(crate) const LATE: u64 = 1;
+
+pub(crate) const ENDED: u64 = 2;
+
+pub(crate) const OPEN: u64 = 3;
+
+pub(crate) const NOT_MISSED: u64 = 0;
+
+pub(crate) const ACCEPTED: u64 = 2;
+
+pub(crate) const EMPTY: u64 = 0;
+
+pub(crate) const NUMBERED: u64 = 65536;
+
 pub(crate) const REFUSED: u64 = 1000000;
 
-pub(crate) const NOT_LEGAL: u64 = 65536;
+// An answer with something wrong in what comes with it: 1 the entries, 2 the words, 3 the record.
+const WRONG: u64 = 1000000000;
 
-pub(crate) const MET: u64 = 1;
-
-pub(crate) const LATE: u64 = 2;
-
-pub(crate) const ENDED: u64 = 3;
-
-pub(crate) const OPEN: u64 = 4;
-
-pub(crate) const NOT_MISSED: u64 = 5;
-
-pub(crate) const ACCEPTED: u64 = 6;
+pub(crate) fn told(answer: u64, entries: bool, words: bool, record: bool) -> u64 {
+    if entries & words & record {
+        return answer;
+    }
+    if entries & words {
+        return WRONG + 3;
+    }
+    if entries { WRONG + 2 } else { WRONG + 1 }
+}
 
 pub(crate) fn mode_of(se: bool) -> Mode {
     if se { Mode::SE } else { Mode::S }
@@ -31,18 +51,9 @@ fn refused(number: u32, place: u32) -> u64 {
     REFUSED + (number as u64) + 256 * (place as u64)
 }
 
-// The number of a refusal that is expected, packed, or 0.
-pub(crate) fn refusal(packed: u32) -> u64 {
-    if packed == 0 {
-        0
-    } else {
-        REFUSED + (packed as u64)
-    }
-}
-
 pub(crate) fn of_outcome(outcome: Outcome) -> u64 {
     match outcome {
-        Outcome::Done => 0,
+        Outcome::Done => DONE,
         Outcome::Refused(number, place) => refused(number, place),
     }
 }
@@ -50,8 +61,8 @@ pub(crate) fn of_outcome(outcome: Outcome) -> u64 {
 pub(crate) fn of_claim(claim: Claim) -> u64 {
     match claim {
         Claim::Refused(number, place) => refused(number, place),
-        Claim::Legal => 0,
-        Claim::NotLegal(t) => NOT_LEGAL + (t as u64),
+        Claim::Legal => LEGAL,
+        Claim::NotLegal(t) => NUMBERED + (t as u64),
     }
 }
 
@@ -68,13 +79,13 @@ pub(crate) fn of_verdict(verdict: Verdict) -> u64 {
 pub(crate) fn of_witness(witness: Witness) -> u64 {
     match witness {
         Witness::Refused(number, place) => refused(number, place),
-        Witness::NotLegal(t) => NOT_LEGAL + (t as u64),
+        Witness::NotLegal(t) => NUMBERED + (t as u64),
         Witness::NotMissed => NOT_MISSED,
         Witness::Accepted => ACCEPTED,
     }
 }
 
-// A standing as the simulator writes it: a job that has not arrived is 3, as one that is not there.
+// A standing as the simulator writes a job's fate: 0 unfinished, 4 f + 1 finished at f, 4 e + 2 ended in tick e, 3 not arrived.
 pub(crate) fn of_standing(standing: Standing) -> u64 {
     match standing {
         Standing::NotArrived => 3,

@@ -1,6 +1,7 @@
 // Inputs damaged in one place: every refusal of a task table, a job list, a horizon and a length, at the edge and far beyond it.
 ghost use Prim.Native.Nat.{_<_};
 use crate::draw::draw;
+use crate::inputs::Input;
 use crate::list::ARRIVAL;
 use crate::list::DEADLINE;
 use crate::list::EXECUTION;
@@ -10,7 +11,8 @@ use crate::list::OFFSET;
 use crate::list::OVERLOAD;
 use crate::list::OWNER;
 use crate::list::PERIOD;
-use crate::print::Input;
+use crate::list::less;
+use std::num::wrapping_add_u32;
 
 // A number at a bound, just beyond it, or far beyond it, where only its low bits would pass.
 fn beyond(trial: u32, place: u32, most: u32) -> u32 {
@@ -28,49 +30,27 @@ fn beyond(trial: u32, place: u32, most: u32) -> u32 {
     if kind == 3 { most } else { near }
 }
 
-// The number above another, where there is one.
-fn above(x: u32) -> u32 {
-    if x < 4294967295 { x + 1 } else { x }
-}
-
-fn below(x: u32) -> u32 {
-    if 0 < x { x - 1 } else { x }
-}
-
-fn most_of(column: usize) -> u32 {
-    if column == 4 {
-        return 255;
-    }
-    if column == 5 { 63 } else { 16384 }
-}
-
-fn more_numbers(list: List, n: usize) -> List {
-    let mut next = list;
-    for i in 0..n {
-        if next.len < n {
-            next = next.push(list.get(i % 21));
-        }
-    }
-    next
-}
-
-// The number before the last goes, or all do, or there are too many.
+// The last number goes, or all do, or there are one or two more, or too many.
 fn wrong_length(list: List, trial: u32, place: u32, too_many: usize) -> List {
     let kind = draw(trial, place, 5);
-    if kind == 0 {
-        return list.cut(0);
-    }
-    if kind == 1 {
-        return more_numbers(list, too_many);
-    }
+    let n = list.len;
+    let mut next = list;
     if kind == 2 {
         return list.push(1);
     }
     if kind == 3 {
         return list.push(1).push(1);
     }
-    let n = list.len;
-    if 0 < n { list.cut(n - 1) } else { list.push(7) }
+    if kind == 0 {
+        next.len = 0;
+    }
+    if kind == 1 {
+        next.len = too_many;
+    }
+    if kind == 4 {
+        next.len = if 0 < n { n - 1 } else { 1 };
+    }
+    next
 }
 
 // One field of a task out of its range, or out of its order.
@@ -85,15 +65,20 @@ fn wrong_task(tasks: List, trial: u32, place: u32) -> List
         return tasks.with(row + column % 4, 0);
     }
     if kind < 3 {
-        return tasks.with(row + column, beyond(trial, place + 3, most_of(column)));
+        let scale = if column == 5 { 63 } else { 255 };
+        let most = if column / 2 == 2 { scale } else { 16384 };
+        return tasks.with(row + column, beyond(trial, place + 3, most));
     }
     if kind == 3 {
-        return tasks.with(row + NOMINAL, above(tasks.get(row + OVERLOAD)));
+        return tasks.with(
+            row + NOMINAL,
+            wrapping_add_u32(tasks.get(row + OVERLOAD), 1),
+        );
     }
     if kind == 4 {
-        return tasks.with(row + DEADLINE, above(tasks.get(row + PERIOD)));
+        return tasks.with(row + DEADLINE, wrapping_add_u32(tasks.get(row + PERIOD), 1));
     }
-    tasks.with(row + OFFSET, above(tasks.get(row + DEADLINE)))
+    tasks.with(row + OFFSET, wrapping_add_u32(tasks.get(row + DEADLINE), 1))
 }
 
 // A row's place in a list of jobs, not the first where there are two.
@@ -113,25 +98,24 @@ fn wrong_job(jobs: List, tasks: List, trial: u32, place: u32) -> List
 {
     let row = some_row(jobs, trial, place);
     let kind = draw(trial, place + 1, 3);
+    let count = ((tasks.len / 7) % 64) as u32;
     let owner = (jobs.get(row + OWNER) % 64) as usize;
     if kind == 0 {
-        let count = ((tasks.len / 7) % 64) as u32;
-        return jobs.with(row + OWNER, pick_owner(trial, place + 2, count));
+        let far = beyond(trial, place + 3, count);
+        let next = if draw(trial, place + 2, 2) == 0 {
+            count
+        } else {
+            far
+        };
+        return jobs.with(row + OWNER, next);
     }
     if kind == 1 {
         return jobs.with(row + ARRIVAL, beyond(trial, place + 2, 16384));
     }
-    jobs.with(row + EXECUTION, above(tasks.get(7 * owner + OVERLOAD)))
-}
-
-fn pick_owner(trial: u32, place: u32, count: u32) -> u32
-    requires { ⌜ place < 60000 ⌝ }
-{
-    if draw(trial, place, 2) == 0 {
-        count
-    } else {
-        beyond(trial, place + 1, count)
-    }
+    jobs.with(
+        row + EXECUTION,
+        wrapping_add_u32(tasks.get(7 * owner + OVERLOAD), 1),
+    )
 }
 
 // An arrival before the one above it, or too soon after the task's preceding job.
@@ -145,7 +129,7 @@ fn wrong_arrival(jobs: List, trial: u32, place: u32) -> List
     }
     let last = jobs.get(row - 3 + ARRIVAL);
     if kind == 0 {
-        return jobs.with(row + ARRIVAL, below(last));
+        return jobs.with(row + ARRIVAL, less(last, 1));
     }
     if kind == 1 {
         return jobs.with(row + ARRIVAL, last);
@@ -153,19 +137,7 @@ fn wrong_arrival(jobs: List, trial: u32, place: u32) -> List
     if kind == 2 {
         return jobs.with(row + OWNER, jobs.get(row - 3 + OWNER));
     }
-    jobs.with(row + ARRIVAL, below(jobs.get(row + ARRIVAL)))
-}
-
-fn with_tasks(inp: Input, tasks: List) -> Input {
-    let mut next = inp;
-    next.tasks = tasks;
-    next
-}
-
-fn with_jobs(inp: Input, jobs: List) -> Input {
-    let mut next = inp;
-    next.jobs = jobs;
-    next
+    jobs.with(row + ARRIVAL, less(jobs.get(row + ARRIVAL), 1))
 }
 
 // Another horizon, or another number of entries than the horizon.
@@ -200,21 +172,26 @@ pub(crate) fn damaged(inp: Input, trial: u32, place: u32) -> Input
     let tasks = inp.tasks;
     let jobs = inp.jobs;
     let kind = draw(trial, place, 12);
-    let next = place + 1;
-    if kind == 0 {
-        return with_tasks(inp, wrong_length(tasks, trial, next, 119));
-    }
+    let mut next = inp;
     if kind < 4 {
-        return with_tasks(inp, wrong_task(tasks, trial, next));
-    }
-    if kind == 4 {
-        return with_jobs(inp, wrong_length(jobs, trial, next, 195));
+        next.tasks = if kind == 0 {
+            wrong_length(tasks, trial, place + 1, 119)
+        } else {
+            wrong_task(tasks, trial, place + 1)
+        };
+        return next;
     }
     if kind < 7 {
-        return with_jobs(inp, wrong_job(jobs, tasks, trial, next));
+        next.jobs = if kind == 4 {
+            wrong_length(jobs, trial, place + 1, 195)
+        } else {
+            wrong_job(jobs, tasks, trial, place + 1)
+        };
+        return next;
     }
     if kind < 10 {
-        return with_jobs(inp, wrong_arrival(jobs, trial, next));
+        next.jobs = wrong_arrival(jobs, trial, place + 1);
+        return next;
     }
-    wrong_ends(inp, trial, next)
+    wrong_ends(inp, trial, place + 1)
 }

@@ -23,8 +23,3 @@ pub(crate) fn draw(trial: u32, place: u32, below: u32) -> u32
     let r = ((x % 65536) as u32) % below;
     if r < 65536 { r } else { 0 }
 }
-
-// One time in so many.
-pub(crate) fn rarely(trial: u32, place: u32, times: u32) -> bool {
-    draw(trial, place, times) == 0
-}

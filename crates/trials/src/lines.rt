@@ -1,42 +1,28 @@
 // Schedules made from a run's by one change: an entry, an idle tick, two jobs or two ticks exchanged, a number that is no job. Some are
 // legal still, where jobs tie or nothing is changed.
+ghost use Prim.Native.Nat.{_<_};
 use crate::draw::draw;
 use crate::flight::entry_of;
+use crate::flight::fill;
 use crate::list::IDLE;
 use crate::list::Line;
+use crate::list::entry_at;
 
-fn with_entry(line: Line, t: u32, entry: u16) -> Line {
-    let mut next = line;
-    if t < 16384 {
-        let i = t as usize;
-        next.at[i] = entry;
+fn exchanged(entry: u16, a: u16, b: u16) -> u16 {
+    if entry == a {
+        return b;
     }
-    next
+    if entry == b { a } else { entry }
 }
 
-fn entry_in(line: Line, t: u32) -> u16 {
-    if t < 16384 {
-        let i = t as usize;
-        line.at[i]
-    } else {
-        IDLE
-    }
-}
-
-// Two numbers exchanged from a tick on.
-fn exchanged(line: Line, from: u32, a: u16, b: u16) -> Line {
-    let mut next = line;
-    for t in from..16384 {
-        let i = t as usize;
-        let entry = line.at[i];
-        if entry == a {
-            next.at[i] = b;
-        }
-        if entry == b {
-            next.at[i] = a;
+// Two numbers exchanged from a tick up to another.
+fn exchange(line: &mut Line, from: u32, to: u32, a: u16, b: u16) {
+    for t in from..to {
+        if t < 16384 {
+            let i = t as usize;
+            line[i] = exchanged(line[i], a, b);
         }
     }
-    next
 }
 
 // A number that is no job of so many: the next one, or one that only its low byte would take for a job.
@@ -54,32 +40,38 @@ fn no_job(trial: u32, place: u32, jobs: u32) -> u16 {
     if kind == 3 { 65534 } else { 32768 }
 }
 
-fn some_job(trial: u32, place: u32, jobs: u32) -> u16 {
-    entry_of(draw(trial, place, jobs) as usize)
+// The entry that a change of a kind puts before the next.
+fn other_entry(kind: u32, trial: u32, place: u32, jobs: u32, next: u16) -> u16
+    requires { ⌜ place < 60000 ⌝ }
+{
+    if kind == 4 {
+        return entry_of(draw(trial, place + 1, jobs) as usize);
+    }
+    if kind == 5 {
+        return IDLE;
+    }
+    if kind == 6 {
+        no_job(trial, place + 3, jobs)
+    } else {
+        next
+    }
 }
 
-// The run's schedule with one change of the kind named.
-pub(crate) fn changed(line: Line, kind: u32, trial: u32, jobs: u32, horizon: u32) -> Line {
+// One change of a kind from 2 to 7; the kinds before have none.
+pub(crate) fn change(line: &mut Line, kind: u32, trial: u32, jobs: u32, horizon: u32) {
     let place = 9000 + 8 * (kind % 64);
     let t = draw(trial, place, horizon);
-    let a = some_job(trial, place + 1, jobs);
-    let b = some_job(trial, place + 2, jobs);
-    if kind == 0 {
-        return exchanged(line, 0, a, b);
+    if kind < 2 {
+        return;
     }
-    if kind == 1 {
-        return exchanged(line, t, a, b);
+    if kind < 4 {
+        let a = entry_of(draw(trial, place + 1, jobs) as usize);
+        let b = entry_of(draw(trial, place + 2, jobs) as usize);
+        exchange(line, if kind == 2 { 0 } else { t }, horizon, a, b);
+        return;
     }
-    if kind == 2 {
-        return with_entry(line, t, a);
-    }
-    if kind == 3 {
-        return with_entry(line, t, IDLE);
-    }
-    if kind == 4 {
-        return with_entry(line, t, no_job(trial, place + 3, jobs));
-    }
-    let here = entry_in(line, t);
-    let next = entry_in(line, t + 1);
-    with_entry(with_entry(line, t, next), t + 1, here)
+    let here = entry_at(line, t as usize);
+    let next = entry_at(line, (t + 1) as usize);
+    fill(line, t, t + 1, other_entry(kind, trial, place, jobs, next));
+    fill(line, t + 1, t + 2, if kind == 7 { here } else { next });
 }

@@ -1,5 +1,5 @@
 // The lists of a trial and how they are read. Every read is total: past a list's end stands 0, and what finds no room is left out.
-ghost use Prim.Native.Nat.{_<_};
+ghost use Prim.Native.Nat.{_<_, _≤_};
 
 // Room for 17 tasks and for 66 jobs, which are more than are allowed.
 pub(crate) struct List {
@@ -7,13 +7,20 @@ pub(crate) struct List {
     pub len: usize,
 }
 
-// A schedule, with room for the longest horizon that is run.
-pub(crate) struct Line {
-    pub at: [u16; 16384],
+// A schedule, with room for the longest horizon.
+pub(crate) type Line = [u16; 16384];
+
+// What a trial is about besides its lists: its number, which is the seed of all that is drawn for it, the mode, the horizon, and how many
+// entries are lent.
+pub(crate) struct Case {
+    pub trial: u32,
+    pub se: bool,
+    pub horizon: u32,
+    pub room: usize,
 }
 
 // What stands in a schedule before a call.
-pub(crate) const KEPT: u16 = 23130;
+pub(crate) const KEPT: u16 = 23045;
 
 pub(crate) const IDLE: u16 = 65535;
 
@@ -38,17 +45,6 @@ pub(crate) const ARRIVAL: usize = 1;
 
 pub(crate) const EXECUTION: usize = 2;
 
-pub(crate) fn no_list() -> List {
-    List {
-        at: [0; 224],
-        len: 0,
-    }
-}
-
-pub(crate) fn no_line() -> Line {
-    Line { at: [KEPT; 16384] }
-}
-
 impl List {
     pub(crate) fn push(self, x: u32) -> List {
         let n = self.len;
@@ -71,23 +67,23 @@ impl List {
     pub(crate) fn get(self, i: usize) -> u32 {
         if i < 224 { self.at[i] } else { 0 }
     }
-
-    pub(crate) fn cut(self, len: usize) -> List {
-        let mut next = self;
-        next.len = len;
-        next
-    }
 }
 
-// The numbers of a slice.
-pub(crate) fn list_of(numbers: &[u32]) -> List {
-    let mut list = no_list();
-    for i in 0..224 {
-        if i < numbers.len() {
-            list = list.push(at(numbers, i));
-        }
-    }
-    list
+pub(crate) fn no_line() -> Line {
+    [KEPT; 16384]
+}
+
+pub(crate) fn least(a: u32, b: u32) -> u32
+    ensures { λ r. ⌜ r ≤ a ⌝ }
+{
+    if a < b { a } else { b }
+}
+
+// What is left of a when b is taken away.
+pub(crate) fn less(a: u32, b: u32) -> u32
+    ensures { λ r. ⌜ r ≤ a ⌝ }
+{
+    if b < a { a - b } else { 0 }
 }
 
 // A number in 64 bits, where sums of a few fit.
@@ -136,12 +132,4 @@ pub(crate) fn front(list: &[u32], n: usize) -> &[u32] {
 
 pub(crate) fn front_of_line(line: &[u16], n: usize) -> &[u16] {
     if n <= line.len() { &line[0..n] } else { line }
-}
-
-pub(crate) fn front_of_bytes(bytes: &[u8], n: usize) -> &[u8] {
-    if n <= bytes.len() {
-        &bytes[0..n]
-    } else {
-        bytes
-    }
 }

@@ -1,28 +1,21 @@
 // Records: whether the library's holds what the simulator has, what the simulator makes of one, and whether one is consistent.
 use crate::answers::of_standing;
 use crate::leap::Sim;
-use crate::leap::blank;
 use crate::list::ARRIVAL;
 use crate::list::EXECUTION;
 use crate::list::job;
+use crate::list::less;
+use crate::list::wide;
 use zsrm::Place;
 use zsrm::Record;
 use zsrm::Standing;
 
-// The standing that a fate means at an instant.
-fn meant(fate: u32, arrival: u32, now: u32) -> u64 {
-    if (fate == 0) & (now < arrival) {
-        3
-    } else {
-        fate as u64
-    }
-}
-
 fn place_holds(place: Place, jobs: &[u32], j: usize, left: u32, fate: u32, now: u32) -> bool {
     let standing = place.standing;
-    let work = job(jobs, j, EXECUTION);
-    let done = (place.done as u64) + (left as u64) == (work as u64);
-    done & (of_standing(standing) == meant(fate, job(jobs, j, ARRIVAL), now))
+    let coming = (now < job(jobs, j, ARRIVAL)) & (j < jobs.len() / 3);
+    let meant = if coming { 3 } else { fate };
+    let done = wide(place.done) + wide(left) == wide(job(jobs, j, EXECUTION));
+    done & (of_standing(standing) == (meant as u64))
 }
 
 // Whether a record is that of the simulator's instant, at all 64 places.
@@ -35,78 +28,75 @@ pub(crate) fn holds(rec: Record, jobs: &[u32], s: Sim) -> bool {
     same
 }
 
-fn left_of(place: Place, c: u32) -> u32 {
-    if place.done <= c { c - place.done } else { 0 }
-}
-
-fn fate_of(place: Place) -> u32 {
+// The fate of a job at a place: one without work that is yet to come finishes as it arrives.
+fn fate_of(place: Place, jobs: &[u32], j: usize) -> u32 {
     let standing = place.standing;
     let fate = of_standing(standing);
-    if fate == 3 {
-        0
+    if fate != 3 {
+        return (fate % 4294967296) as u32;
+    }
+    if job(jobs, j, EXECUTION) == 0 {
+        (job(jobs, j, ARRIVAL) % 65536) * 4 + 1
     } else {
-        (fate % 4294967296) as u32
+        0
     }
 }
 
-// The simulator at the instant of a consistent record.
+// The simulator at the instant of a consistent record, or of one that no job has touched.
 pub(crate) fn taken_up(rec: Record, jobs: &[u32]) -> Sim {
     let n = jobs.len() / 3;
-    let mut s = blank();
-    s.now = rec.tick;
+    let mut left = [0u32; 64];
+    let mut fate = [3u32; 64];
     for j in 0..64 {
         if j < n {
             let place = rec.places[j];
-            s.left[j] = left_of(place, job(jobs, j, EXECUTION));
-            s.fate[j] = fate_of(place);
+            left[j] = less(job(jobs, j, EXECUTION), place.done);
+            fate[j] = fate_of(place, jobs, j);
         }
     }
-    s
-}
-
-// Whether the ticks done fit a job that has arrived: all of its work or less, and no more than there was time for.
-fn worked(done: u32, c: u32, whole: bool, since: u32) -> bool {
-    if since < done {
-        return false;
-    }
-    if whole { done == c } else { done < c }
-}
-
-// Whether a standing fits a job that arrived some ticks ago.
-fn fits(se: bool, c: u32, done: u32, standing: Standing, arrival: u32, since: u32) -> bool {
-    match standing {
-        Standing::NotArrived => false,
-        Standing::Unfinished => worked(done, c, false, since),
-        Standing::Finished(f) => {
-            if f < arrival {
-                return false;
-            }
-            worked(done, c, true, since) & (c <= f - arrival) & (f - arrival <= since)
-        }
-        Standing::Ended(e) => {
-            if e < arrival {
-                return false;
-            }
-            se & worked(done, c, false, since) & (e - arrival < since)
-        }
+    Sim {
+        now: rec.tick,
+        turn: false,
+        cut: 0,
+        left,
+        fate,
     }
 }
 
-fn absent(standing: Standing, done: u32) -> bool {
-    (of_standing(standing) == 3) & (done == 0)
+// The simulator before anything has happened.
+pub(crate) fn begin(jobs: &[u32]) -> Sim {
+    let empty = Place {
+        done: 0,
+        standing: Standing::NotArrived,
+    };
+    let blank = Record {
+        tick: 0,
+        places: [empty; 64],
+    };
+    taken_up(blank, jobs)
 }
 
+// Whether a place fits job j: nothing before it has come; then ticks done within its work and the time that there was, all of them
+// where it is finished, and an instant at which it can have finished or have been ended.
 fn place_fits(se: bool, jobs: &[u32], j: usize, place: Place, now: u32) -> bool {
     let standing = place.standing;
-    let arrival = job(jobs, j, ARRIVAL);
-    if jobs.len() / 3 <= j {
-        return absent(standing, place.done);
+    let fate = of_standing(standing);
+    let a = wide(job(jobs, j, ARRIVAL));
+    let c = job(jobs, j, EXECUTION);
+    if (jobs.len() / 3 <= j) | (wide(now) < a) {
+        return (fate == 3) & (place.done == 0);
     }
-    if arrival <= now {
-        let c = job(jobs, j, EXECUTION);
-        fits(se, c, place.done, standing, arrival, now - arrival)
+    let timely = a + wide(place.done) <= wide(now);
+    if fate == 0 {
+        return timely & (place.done < c);
+    }
+    if fate % 4 == 1 {
+        return timely & (place.done == c) & (a + wide(c) <= fate / 4) & (fate / 4 <= wide(now));
+    }
+    if fate % 4 == 2 {
+        se & timely & (place.done < c) & (a <= fate / 4) & (fate / 4 < wide(now))
     } else {
-        absent(standing, place.done)
+        false
     }
 }
 

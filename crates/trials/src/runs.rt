@@ -1,89 +1,76 @@
-// Runs and fresh records, against the simulator: the outcome, every entry of the lent list and those past it, and the record at all 64
-// places. A refused call must leave the list as it was and answer a blank record.
+// Runs, fresh records, steps and verdicts, against the simulator. All that a call gives is compared: the outcome, every entry of the lent
+// list, the words, the record at all 64 places. A refused call must leave the list as it was, answer a blank record, and 0 for every
+// number.
+use crate::answers::ENDED;
+use crate::answers::LATE;
+use crate::answers::MET;
+use crate::answers::OPEN;
 use crate::answers::mode_of;
 use crate::answers::of_outcome;
-use crate::answers::refusal;
+use crate::answers::of_verdict;
+use crate::answers::told;
+use crate::flight::entry_of;
 use crate::flight::fly;
 use crate::judge::FINE;
+use crate::judge::late;
 use crate::judge::lists_key;
-use crate::judge::packed;
-use crate::judge::schedule_key;
+use crate::judge::refusal;
+use crate::judge::ticks_of;
 use crate::leap::Sim;
-use crate::leap::begin;
-use crate::leap::blank;
+use crate::leap::leap;
+use crate::leap::ready_now;
+use crate::list::ARRIVAL;
+use crate::list::Case;
+use crate::list::DEADLINE;
+use crate::list::IDLE;
+use crate::list::KEPT;
 use crate::list::Line;
 use crate::list::entry_at;
 use crate::list::front;
+use crate::list::front_of_line;
+use crate::list::job;
+use crate::list::least;
 use crate::list::no_line;
-use crate::print::Input;
+use crate::list::of;
+use crate::list::wide;
+use crate::records::begin;
+use crate::records::consistent;
 use crate::records::holds;
+use crate::records::taken_up;
+use crate::tally::BUSY_TICKS;
+use crate::tally::ENDING;
+use crate::tally::FRESH;
+use crate::tally::IDLE_TICKS;
+use crate::tally::LATE_TURNS;
+use crate::tally::LONGEST;
+use crate::tally::NO_TICK;
+use crate::tally::RUN;
+use crate::tally::STEP;
 use crate::tally::Tally;
+use crate::tally::VERDICT;
+use crate::tally::add;
+use crate::tally::note;
 use zsrm::Mode;
-use zsrm::Place;
 use zsrm::Ran;
 use zsrm::Record;
-use zsrm::Standing;
+use zsrm::Stepped;
 
-// What a run must come to: the key of its refusal, the list as it must stand, and where the run ends.
-pub(crate) struct Want {
-    pub key: u32,
-    pub line: Line,
-    pub end: Sim,
-}
-
-// A refused run leaves the list as it was, and its record is blank.
-pub(crate) fn refused(key: u32) -> Want {
-    let line = no_line();
-    let end = blank();
-    Want { key, line, end }
-}
-
-pub(crate) fn expected(inp: Input, tasks: &[u32], jobs: &[u32]) -> Want {
-    let key = schedule_key(tasks, jobs, inp.horizon, inp.room);
-    if key != FINE {
-        return refused(key);
+// Whether the entries of a list are those of another from a place on.
+pub(crate) fn alike(got: &[u16], want: &[u16], from: u32) -> bool {
+    let n = got.len();
+    for i in 0..n {
+        if i < 65536 {
+            if entry_at(got, i) != entry_at(want, i + (from as usize)) {
+                return false;
+            }
+        }
     }
-    let flight = fly(inp.se, tasks, jobs, inp.horizon, true);
-    let line = flight.line;
-    let end = flight.end;
-    Want { key, line, end }
+    true
 }
 
 // The jobs that a record is to hold: none where the call is refused.
-pub(crate) fn held_jobs(jobs: &[u32], key: u32) -> &[u32] {
+fn held_jobs(jobs: &[u32], key: u32) -> &[u32] {
     if key == FINE { jobs } else { front(jobs, 0) }
-}
-
-// A record that no job has touched.
-pub(crate) fn blank_record() -> Record {
-    let empty = Place {
-        done: 0,
-        standing: Standing::NotArrived,
-    };
-    Record {
-        tick: 0,
-        places: [empty; 64],
-    }
-}
-
-pub(crate) fn yes(test: bool) -> u64 {
-    if test { 1 } else { 0 }
-}
-
-// How many entries are not as they must be.
-pub(crate) fn unlike(got: &[u16], want: Line) -> u64 {
-    let mut n: u64 = 0;
-    for i in 0..16384 {
-        if entry_at(got, i) != want.at[i] {
-            n = n % 65536 + 1;
-        }
-    }
-    n
-}
-
-pub(crate) fn unlike_lines(got: Line, want: Line) -> u64 {
-    let entries = got.at;
-    unlike(&entries, want)
 }
 
 fn lent_run(
@@ -101,50 +88,185 @@ fn lent_run(
     }
 }
 
-// A run's tally, with the record that it answered.
-pub(crate) struct Tried {
-    pub t: Tally,
-    pub record: Record,
-}
-
-pub(crate) fn try_run(t: Tally, inp: Input, tasks: &[u32], jobs: &[u32], want: Want) -> Tried {
-    let before = no_line();
-    let mut line = before.at;
+// A run that must be refused by a key or leave the entries that the simulator writes, up to a horizon that is 0 where it is refused. Its
+// record is the answer.
+pub(crate) fn try_run(
+    t: &mut Tally,
+    case: Case,
+    tasks: &[u32],
+    jobs: &[u32],
+    key: u32,
+    own: &mut Line,
+) -> Record {
+    let held = held_jobs(jobs, key);
+    let end = fly(case.se, tasks, held, ticks_of(key, case.horizon), true, own);
+    let mut line = no_line();
     let ran = lent_run(
-        mode_of(inp.se),
+        mode_of(case.se),
         tasks,
         jobs,
-        inp.horizon,
+        case.horizon,
         &mut line,
-        inp.room,
+        case.room,
     );
     let outcome = ran.outcome;
     let record = ran.record;
-    let entries = want.line;
-    let end = want.end;
-    let answer = refusal(packed(want.key));
-    let first = t.refusal(answer)
-        .note(inp, b"run, outcome", answer, of_outcome(outcome));
-    let second = first.note(inp, b"run, entries", 0, unlike(&line, entries));
-    let held = holds(record, held_jobs(jobs, want.key), end);
-    Tried {
-        t: second.note(inp, b"run, record", 1, yes(held)),
-        record,
+    let same = holds(record, held, end);
+    let lent = alike(front_of_line(&line, case.room), own, 0);
+    let got = told(of_outcome(outcome), lent, true, same);
+    note(t, RUN, 0, refusal(key), got);
+    record
+}
+
+// The idle and the busy ticks of a run, and how often another entry follows in the last 4,096 of 16,384 ticks.
+pub(crate) fn count_ticks(t: &mut Tally, line: &Line, ticks: u32) {
+    let mut last = KEPT;
+    if ticks == 0 {
+        add(t, NO_TICK, 1);
+    }
+    if ticks == 16384 {
+        add(t, LONGEST, 1);
+    }
+    for i in 0..ticks {
+        let entry = entry_at(line, i as usize);
+        let kind = if entry == IDLE {
+            IDLE_TICKS
+        } else {
+            BUSY_TICKS
+        };
+        add(t, kind, 1);
+        if (12288 <= i) & (last != entry) {
+            add(t, LATE_TURNS, 1);
+        }
+        last = entry;
     }
 }
 
-pub(crate) fn try_fresh(t: Tally, inp: Input, tasks: &[u32], jobs: &[u32], stale: Record) -> Tally {
+// The fresh record, from any record.
+pub(crate) fn try_fresh(t: &mut Tally, tasks: &[u32], jobs: &[u32], stale: Record) -> Record {
     let ran = stale.fresh(tasks, jobs);
     let outcome = ran.outcome;
     let record = ran.record;
     let key = lists_key(tasks, jobs);
-    let start = if key == FINE { begin(jobs) } else { blank() };
-    let first = t.note(
-        inp,
-        b"fresh, outcome",
-        refusal(packed(key)),
-        of_outcome(outcome),
+    let held = held_jobs(jobs, key);
+    let same = holds(record, held, begin(held));
+    note(
+        t,
+        FRESH,
+        0,
+        refusal(key),
+        told(of_outcome(outcome), true, true, same),
     );
-    let held = holds(record, held_jobs(jobs, key), start);
-    first.note(inp, b"fresh, record", 1, yes(held))
+    record
+}
+
+// What a step comes to, as a number: its outcome, where the entry, the words and the record are as they must be.
+fn step_told(got: Stepped, s: Sim, se: bool, tasks: &[u32], jobs: &[u32]) -> u64 {
+    let r = ready_now(s, tasks, jobs);
+    let next = leap(s, se, tasks, jobs, r.first, s.now % 65536 + 1);
+    let outcome = got.outcome;
+    let record = got.record;
+    let words = (got.ready == r.word) & (got.ones == r.ones) & (got.ended == next.cut);
+    told(
+        of_outcome(outcome),
+        got.entry == entry_of(r.first),
+        words,
+        holds(record, jobs, next),
+    )
+}
+
+fn refused_told(got: Stepped) -> u64 {
+    let outcome = got.outcome;
+    let record = got.record;
+    let words = (got.ready == 0) & (got.ones == 0) & (got.ended == 0);
+    let none = [0u32; 1];
+    let jobs = front(&none, 0);
+    let blank = holds(record, jobs, begin(jobs));
+    told(of_outcome(outcome), got.entry == 0, words, blank)
+}
+
+// One step from any record. The record after it is the answer.
+pub(crate) fn try_step(
+    t: &mut Tally,
+    case: Case,
+    tasks: &[u32],
+    jobs: &[u32],
+    rec: Record,
+) -> Record {
+    let unfit = late(!consistent(rec, case.se, jobs), 11);
+    let key = least(
+        lists_key(tasks, jobs),
+        least(unfit, late(rec.tick == 16384, 12)),
+    );
+    let stepped = rec.step(mode_of(case.se), tasks, jobs);
+    let got = if key == FINE {
+        step_told(stepped, taken_up(rec, jobs), case.se, tasks, jobs)
+    } else {
+        refused_told(stepped)
+    };
+    note(t, STEP, rec.tick, refusal(key), got);
+    if stepped.ended != 0 {
+        add(t, ENDING, 1);
+    }
+    stepped.record
+}
+
+// So many steps.
+pub(crate) fn try_steps(
+    t: &mut Tally,
+    case: Case,
+    tasks: &[u32],
+    jobs: &[u32],
+    fresh: Record,
+    n: u32,
+) {
+    let mut rec = fresh;
+    for ticks in 0..n {
+        rec = try_step(t, case, tasks, jobs, rec);
+    }
+}
+
+// The verdict on a job at the simulator's instant.
+pub(crate) fn verdict_of(s: Sim, tasks: &[u32], jobs: &[u32], j: u32) -> u64 {
+    let i = (j % 64) as usize;
+    let fate = s.fate[i];
+    let a = job(jobs, i, ARRIVAL);
+    let due = wide(a) + wide(of(tasks, jobs, i, DEADLINE));
+    if s.now < a {
+        return OPEN;
+    }
+    if fate == 0 {
+        return if wide(s.now) < due { OPEN } else { LATE };
+    }
+    if fate % 4 == 2 {
+        return ENDED;
+    }
+    if due < wide(fate / 4) { LATE } else { MET }
+}
+
+// The verdict on a job from any record.
+fn try_verdict(t: &mut Tally, case: Case, tasks: &[u32], jobs: &[u32], rec: Record, j: u32) {
+    let unfit = late(!consistent(rec, case.se, jobs), 11);
+    let unknown = late(jobs.len() / 3 <= (j as usize), 13);
+    let key = least(lists_key(tasks, jobs), least(unfit, unknown));
+    let got = of_verdict(zsrm::verdict(rec, mode_of(case.se), tasks, jobs, j));
+    let want = if key == FINE {
+        verdict_of(taken_up(rec, jobs), tasks, jobs, j)
+    } else {
+        refusal(key)
+    };
+    note(t, VERDICT, j, want, got);
+}
+
+// A number beyond every list, which in 16 bits would be 0.
+pub(crate) const FAR_JOB: u32 = 65536;
+
+// The verdicts on all jobs, and on two beyond the list.
+pub(crate) fn try_verdicts(t: &mut Tally, case: Case, tasks: &[u32], jobs: &[u32], rec: Record) {
+    try_verdict(t, case, tasks, jobs, rec, FAR_JOB);
+    for j in 0..65 {
+        if (j as usize) <= jobs.len() / 3 {
+            try_verdict(t, case, tasks, jobs, rec, j);
+        }
+    }
 }

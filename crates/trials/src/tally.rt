@@ -1,209 +1,198 @@
-// Counts of what was tried. What is counted nowhere was not tried, so every group prints its counts.
-use crate::answers::ACCEPTED;
-use crate::answers::ENDED;
-use crate::answers::LATE;
-use crate::answers::MET;
-use crate::answers::NOT_LEGAL;
-use crate::answers::NOT_MISSED;
-use crate::answers::OPEN;
+// What the program counts and writes. Every answer is counted under its call, so what is counted nowhere was not tried; what made a
+// difference is written with all that it takes to repeat the call.
+use crate::answers::NUMBERED;
 use crate::answers::REFUSED;
-use crate::list::wide;
-use crate::print::Input;
-use crate::print::difference;
-use crate::print::print_input;
-use crate::print::schedule;
+use crate::list::Case;
+use crate::list::at;
+use crate::list::entry_at;
 
-pub(crate) struct Tally {
-    pub n: [u32; 64],
-}
+pub(crate) type Tally = [u32; 512];
 
-// What the counts stand for. Refusal r is counted at FIRST_REFUSAL + r.
 pub(crate) const INPUTS: usize = 0;
 
 pub(crate) const CALLS: usize = 1;
 
 pub(crate) const DIFFERENCES: usize = 2;
 
-pub(crate) const IDLE_TICKS: usize = 3;
+// Each call has 32 counts: its answers, in the order in which report names them, from 16 on the refusals by their numbers, and at 31 how
+// often it was made. The claims have as many for each of their eight kinds.
+pub(crate) const RUN: usize = 32;
 
-pub(crate) const BUSY_TICKS: usize = 4;
+pub(crate) const FRESH: usize = 64;
 
-pub(crate) const JOBS_MET: usize = 5;
+pub(crate) const STEP: usize = 96;
 
-pub(crate) const JOBS_LATE: usize = 6;
+pub(crate) const VERDICT: usize = 128;
 
-pub(crate) const JOBS_ENDED: usize = 7;
+pub(crate) const WITNESS: usize = 160;
 
-pub(crate) const JOBS_OPEN: usize = 8;
+pub(crate) const PART: usize = 192;
 
-pub(crate) const WITNESS_NOT_MISSED: usize = 9;
+pub(crate) const CLAIM: usize = 224;
 
-pub(crate) const WITNESS_ACCEPTED: usize = 10;
+// What is counted beside the answers.
+pub(crate) const IDLE_TICKS: usize = 33;
 
-pub(crate) const WITNESS_NOT_LEGAL: usize = 11;
+pub(crate) const BUSY_TICKS: usize = 34;
 
-pub(crate) const CLAIM_LEGAL: usize = 12;
+pub(crate) const NO_TICK: usize = 35;
 
-pub(crate) const CLAIM_NOT_LEGAL: usize = 13;
+pub(crate) const LONGEST: usize = 36;
 
-pub(crate) const PARTS_SHOWN: usize = 14;
+pub(crate) const LATE_TURNS: usize = 37;
 
-pub(crate) const PARTS_EMPTY: usize = 15;
+pub(crate) const ENDING: usize = 97;
 
-pub(crate) const TAKEN: usize = 16;
+pub(crate) const UNLIKE_OURS: usize = 2;
 
-pub(crate) const STEPS: usize = 17;
-
-pub(crate) const ENDING_STEPS: usize = 18;
-
-pub(crate) const NO_TICKS: usize = 19;
-
-pub(crate) const OTHER_RUNS: usize = 20;
-
-pub(crate) const C_LEGAL: usize = 21;
-
-pub(crate) const C_NOT_LEGAL: usize = 22;
-
-pub(crate) const LONGEST_RUNS: usize = 54;
-
-pub(crate) const LATE_TURNS: usize = 55;
-
-// Claims of kind k are counted at FIRST_KIND + 2 k where they are legal, and after it where they are not.
-pub(crate) const FIRST_KIND: usize = 24;
-
-pub(crate) const KINDS: u32 = 8;
-
-pub(crate) const FIRST_REFUSAL: usize = 40;
+const MADE: usize = 31;
 
 pub(crate) fn nothing() -> Tally {
-    Tally { n: [0; 64] }
+    [0; 512]
 }
 
-impl Tally {
-    pub(crate) fn more(self, what: usize, by: u32) -> Tally {
-        let mut next = self;
-        if what < 64 {
-            let sum = wide(self.n[what]) + wide(by);
-            next.n[what] = (sum % 4294967296) as u32;
-        }
-        next
-    }
+pub(crate) fn count(t: &Tally, what: usize) -> u32 {
+    if what < 512 { t[what] } else { 0 }
+}
 
-    pub(crate) fn plus(self, what: usize) -> Tally {
-        self.more(what, 1)
+pub(crate) fn add(t: &mut Tally, what: usize, by: u32) {
+    if what < 512 {
+        t[what] = std::num::wrapping_add_u32(t[what], by);
     }
+}
 
-    pub(crate) fn get(self, what: usize) -> u32 {
-        if what < 64 { self.n[what] } else { 0 }
+// The place of an answer among the counts of its call: what is told with a number is the second.
+fn class(answer: u64) -> usize {
+    if REFUSED <= answer {
+        return 16 + ((answer - REFUSED) % 16) as usize;
     }
+    if NUMBERED <= answer {
+        1
+    } else {
+        (answer % 16) as usize
+    }
+}
 
-    // Two groups together.
-    pub(crate) fn with(self, other: Tally) -> Tally {
-        let inputs = self.more(INPUTS, other.get(INPUTS));
-        let calls = inputs.more(CALLS, other.get(CALLS));
-        calls.more(DIFFERENCES, other.get(DIFFERENCES))
+// A call was compared: what it names, a job or a tick, what was expected, and what came.
+pub(crate) fn note(t: &mut Tally, call: usize, number: u32, want: u64, got: u64) {
+    add(t, CALLS, 1);
+    add(t, call % 512 + MADE, 1);
+    add(t, call % 512 + class(want) % 32, 1);
+    if want != got {
+        add(t, DIFFERENCES, 1);
+        difference(call / 32, number, want, got);
     }
+}
 
-    // A call was compared.
-    pub(crate) fn note(self, inp: Input, call: &[u8], want: u64, got: u64) -> Tally {
-        let called = self.plus(CALLS);
-        if want == got {
-            return called;
-        }
-        difference(call, want, got);
-        print_input(inp);
-        called.plus(DIFFERENCES)
-    }
+// The calls are numbered from 1, as report lists them.
+fn difference(call: usize, number: u32, want: u64, got: u64) {
+    say(b"difference: call ", call as u64);
+    say(b", number ", number as u64);
+    say(b": expected ", want);
+    say(b", got ", got);
+    text(b"\n");
+}
 
-    // The same, of a call on a schedule, which is printed too.
-    pub(crate) fn note_on(
-        self,
-        inp: Input,
-        line: &[u16],
-        call: &[u8],
-        want: u64,
-        got: u64,
-    ) -> Tally {
-        let noted = self.note(inp, call, want, got);
-        if want != got {
-            schedule(line, inp.room);
-        }
-        noted
-    }
+pub(crate) fn text(words: &[u8]) {
+    io::write_all(1, words);
+}
 
-    // The refusal that an input must meet, or that it must be taken.
-    pub(crate) fn refusal(self, answer: u64) -> Tally {
-        if answer < REFUSED {
-            return self.plus(TAKEN);
-        }
-        let number = ((answer - REFUSED) % 16) as usize;
-        self.plus(FIRST_REFUSAL + number)
-    }
+// Words and a number.
+pub(crate) fn say(words: &[u8], n: u64) {
+    text(words);
+    io::print_decimal(1, n);
+}
 
-    // A refusal that is not the lists' or the schedule's.
-    pub(crate) fn late_refusal(self, answer: u64) -> Tally {
-        if answer < REFUSED {
-            return self;
-        }
-        let number = (answer - REFUSED) % 256;
-        if 10 < number {
-            self.refusal(answer)
-        } else {
-            self
-        }
+fn refused(number: usize, times: u32) {
+    if 0 < times {
+        say(b"; refused ", number as u64);
+        say(b": ", times as u64);
     }
+}
 
-    pub(crate) fn claim(self, answer: u64) -> Tally {
-        if REFUSED <= answer {
-            return self;
+// What the words name, so many counts, and the refusals that came; nothing of a call that was not made.
+fn line(t: &Tally, words: &[u8], call: usize, n: usize) {
+    let first = call % 512;
+    if count(t, first + MADE) == 0 {
+        return;
+    }
+    text(words);
+    for k in 0..MADE {
+        let times = count(t, first + k);
+        if k < n {
+            say(b" ", times as u64);
         }
-        if NOT_LEGAL <= answer {
-            self.plus(CLAIM_NOT_LEGAL)
-        } else {
-            self.plus(CLAIM_LEGAL)
+        if 16 < k {
+            refused(k - 16, times);
         }
     }
+    text(b"\n");
+}
 
-    // The same, as the call from C packs it.
-    pub(crate) fn c_claim(self, answer: u64) -> Tally {
-        if NOT_LEGAL <= answer {
-            return self.plus(C_NOT_LEGAL);
-        }
-        if answer == 0 {
-            self.plus(C_LEGAL)
-        } else {
-            self
-        }
-    }
+// Our run itself is claimed wherever anything is.
+fn claims(t: &Tally) {
+    line(
+        t,
+        b"  claim of our run legal, not legal, unlike ours:",
+        CLAIM,
+        3,
+    );
+    line(t, b"  claim of the last of equals:", CLAIM + 32, 3);
+    line(t, b"  claim with jobs exchanged:", CLAIM + 64, 3);
+    line(
+        t,
+        b"  claim with jobs exchanged from a tick on:",
+        CLAIM + 96,
+        3,
+    );
+    line(t, b"  claim with another job:", CLAIM + 128, 3);
+    line(t, b"  claim with an idle tick:", CLAIM + 160, 3);
+    line(t, b"  claim with no job's number:", CLAIM + 192, 3);
+    line(t, b"  claim with neighbours exchanged:", CLAIM + 224, 3);
+}
 
-    pub(crate) fn verdict(self, answer: u64) -> Tally {
-        if answer == MET {
-            return self.plus(JOBS_MET);
-        }
-        if answer == LATE {
-            return self.plus(JOBS_LATE);
-        }
-        if answer == ENDED {
-            return self.plus(JOBS_ENDED);
-        }
-        if answer == OPEN {
-            self.plus(JOBS_OPEN)
-        } else {
-            self
-        }
-    }
+// All that a group counted, or the sum of all.
+pub(crate) fn report(t: &Tally) {
+    say(b": inputs ", count(t, INPUTS) as u64);
+    say(b", calls ", count(t, CALLS) as u64);
+    say(b", differences ", count(t, DIFFERENCES) as u64);
+    text(b"\n");
+    line(
+        t,
+        b"  run done, ticks idle, busy, runs of no tick, of 16384, turns past 12288:",
+        RUN,
+        6,
+    );
+    line(t, b"  fresh done:", FRESH, 1);
+    line(t, b"  step done, ending a job:", STEP, 2);
+    line(t, b"  verdict met, late, ended, open:", VERDICT, 4);
+    line(t, b"  witness not missed, not legal, accepted:", WITNESS, 3);
+    line(t, b"  part empty, shown:", PART, 2);
+    claims(t);
+}
 
-    pub(crate) fn witness(self, answer: u64) -> Tally {
-        if answer == NOT_MISSED {
-            return self.plus(WITNESS_NOT_MISSED);
-        }
-        if answer == ACCEPTED {
-            return self.plus(WITNESS_ACCEPTED);
-        }
-        if (NOT_LEGAL <= answer) & (answer < REFUSED) {
-            self.plus(WITNESS_NOT_LEGAL)
-        } else {
-            self
-        }
+fn numbers(name: &[u8], list: &[u32]) {
+    let n = list.len();
+    text(name);
+    for i in 0..n {
+        say(b" ", at(list, i) as u64);
     }
+    text(b"\n");
+}
+
+pub(crate) fn print_input(case: Case, tasks: &[u32], jobs: &[u32]) {
+    say(b"  in trial ", case.trial as u64);
+    say(b", horizon ", case.horizon as u64);
+    say(b", entries ", case.room as u64);
+    numbers(b"\n  tasks", tasks);
+    numbers(b"  jobs", jobs);
+}
+
+pub(crate) fn print_line(line: &[u16]) {
+    let n = line.len();
+    text(b"  schedule");
+    for i in 0..n {
+        say(b" ", entry_at(line, i) as u64);
+    }
+    text(b"\n");
 }

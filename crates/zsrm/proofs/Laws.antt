@@ -1,10 +1,7 @@
 -- The laws, one file per notion: proved once, and cited from then on.
-pub mod Refusals
-pub mod Accepted
 pub mod Places
 pub mod Tick
 pub mod Consistent
-pub mod Ranges
 pub mod Ready
 pub mod View
 pub mod Next
@@ -16,9 +13,9 @@ pub mod Step
 pub mod Going
 pub mod Claims
 pub mod Verdicts
-pub mod Bytes
-pub mod Small
 pub mod Said
 pub mod Answers
 pub mod Exactly
+pub mod Called
+pub mod Bytes
 pub mod Promises

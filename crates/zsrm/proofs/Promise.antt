@@ -4,57 +4,59 @@
 -- contract of its function in src/, which takes any input and returns; with `runSchedule` and `runBytes` for what a run writes. `checkLists`,
 -- `checkStep`, `checkSchedule`, `checkVerdict` and `checkWitness` are the checks of each entry point, in the order of their numbers.
 -- `..Said` says an answer in numbers, and Said gives each its name: `done`, `refused number place`, `legal`, `notLegal t`, `met`, `late`,
--- `ended`, `accepted`, `notMissed`, `finishedAt f`, `endedIn e`. `recordBefore g schedule t` is the record before tick t of the schedule,
+-- `ended`, `accepted`, `notMissed`, `unfinished`, `finishedAt f`, `endedIn e`. `recordBefore g schedule t` is the record before tick t of the schedule,
 -- and `replayed g schedule` the one at its end. All of them are definitions of specs/. Laws/Promises has `topmost-example`, a table that
 -- meets the premise of (ii).
 use Prim.Native.Nat.{_*_, _+_, _-_, _<_, ℕ, _≤_}
 use mathlib.Core.Bool.{true}
 use mathlib.Core.List.{List}
 use mathlib.Core.Logic.{_↔_, _⊎_}
-use mathlib.Core.Path.{ap, refl, subst, _∙_, _≡_}
+use mathlib.Core.Path.{ap, refl, subst, _≡_, _∙_}
 use native.Mathlib.Omega.{arith}
 use lib.ListN.{getD, length}
 use Rattle.zsrm.specs.declared.record.Record.{Record}
-use Rattle.zsrm.specs.declared.record.Standing.the-variants.{Ended, Finished}
+use Rattle.zsrm.specs.declared.record.Standing.the-variants.{Finished}
 use Rattle.zsrm.specs.Answers.{checkSchedule, checkStep, checkVerdict, checkWitness, claimAnswer, freshAnswer, ran, refusedStep, responseAnswer, runAnswer, runSchedule, stepAnswer, stepped, stepsFrom, verdictAnswer, witnessAnswer}
-use Rattle.zsrm.specs.Bytes.{bytes2, checkBytes, claimResult, givenBytes, numbers2, runBytes, runResult}
-use Rattle.zsrm.specs.Legal.{claim}
 use Rattle.zsrm.specs.Record.{blank, consistent, fresh, standingAt}
-use Rattle.zsrm.specs.Refusals.{checkLists}
-use Rattle.zsrm.specs.Run.{recordBefore, replayed}
-use Rattle.zsrm.specs.Said.{accepted, claimSaid, done, ended, endedIn, finishedAt, late, legal, met, notLegal, notMissed, outcomeSaid, refused, standingSaid, unfinished, verdictSaid, witnessSaid}
-use Rattle.zsrm.specs.Tables.{Given, arrival, deadlineInstant, idle, jobCount, jobCriticality, taskOf, zeroSlackInstant}
+use Rattle.tables.specs.Refusals.{checkLists}
+use Rattle.zsrm.specs.Run.{replayed, recordBefore}
+use Rattle.zsrm.specs.Said.{accepted, claimSaid, ended, endedIn, finishedAt, late, legal, met, notLegal, notMissed, standingSaid, unfinished, verdictSaid, witnessSaid}
+use Rattle.tables.specs.Said.{done, outcomeSaid, refused}
+use Rattle.zsrm.specs.Given.{Given}
+use Rattle.tables.specs.Tables.{arrival, deadlineInstant, idle, jobCount, jobCriticality, taskOf, zeroSlackInstant, lists}
 use Rattle.zsrm.specs.Topmost.{Topmost, assured}
 use Rattle.zsrm.specs.Verdict.{emptyPart}
-use Rattle.zsrm.proofs.Laws.Accepted.{few-jobs, job}
 use Rattle.zsrm.proofs.Laws.Answers.{is-legal, met-answer, run-claim, run-outcome}
-use Rattle.zsrm.proofs.Laws.Consistent.{advanced-consistent, fresh-consistent, pending-alive}
-use Rattle.zsrm.proofs.Laws.Exactly as exactly
-use Rattle.zsrm.proofs.Laws.Places.{tick-fresh}
+use Rattle.zsrm.proofs.Laws.Consistent.{pending-alive}
 use Rattle.zsrm.proofs.Laws.Promises.{accepted-says, met-not-missed, missed-accepted, ran-consistent, ran-entry, ran-replayed, ran-step-done, ran-steps, run-checked, run-refused-keeps, shown-entries, shown-from, shown-length}
-use Rattle.zsrm.proofs.Laws.Replay.{kept-at, legal-at, legal-dispatch, replayed-is, tick-recordBefore}
+use Rattle.zsrm.proofs.Laws.Replay.{legal-at, legal-may, replayed-is, tick-recordBefore}
 use Rattle.zsrm.proofs.Laws.Said.{standing-said}
-use Rattle.zsrm.proofs.Laws.Small as called
-use Rattle.zsrm.proofs.Laws.Small.{c-refused-both, c-run-claim, c-run-kept, c-run-zero}
-use Rattle.zsrm.proofs.Laws.Tick.{dispatch-serves, past-of}
+use Rattle.zsrm.proofs.Laws.Tick.{dispatch-serves, past-exactly}
 use Rattle.zsrm.proofs.Laws.Topmost.{assured-in-time, topmost-finished}
 use Rattle.zsrm.proofs.Readings.{LeastIllegal, LegalAt}
+use Rattle.zsrm.proofs.Laws.Verdicts.{legal-consistent}
+use Rattle.tables.proofs.Laws.Accepted.{lists-few, lists-jobs, lists-tasks}
+use Rattle.zsrm.proofs.Laws.Called.{c-refused-both, c-run-claim, c-run-kept, c-run-zero}
+use Rattle.zsrm.specs.Bytes.{bytes2, checkBytes, claimResult, givenBytes, numbers2, runBytes, runResult}
+use Rattle.zsrm.proofs.Laws.Called as called
+use Rattle.zsrm.proofs.Laws.Exactly as exactly
 
 -- ## Demand 1: bad input gets exactly the refusal that the checks name, and the caller's lists then hold what they held
 
--- What the checks of an entry point say is what it answers, where they refuse; a fresh record, a step and a run say no more than that.
-pub fresh-checked : (tasks jobs : List ℕ) → freshAnswer tasks jobs .outcome ≡ checkLists tasks jobs
+-- The outcome of a fresh record, a step and a run is what its checks say; a claim, a verdict and a witness are refused exactly where
+-- theirs refuse.
+pub fresh-checked : (tasks jobs : List ℕ) → freshAnswer tasks jobs .outcome ≡ checkLists (lists tasks jobs)
 unfolding freshAnswer ran
 fresh-checked tasks jobs = refl
 
 pub step-checked : (g : Given) (r : Record) → stepAnswer g r .outcome ≡ checkStep g r
 step-checked g r = exactly.step-checked g r
 
-pub run-checks : (g : Given) (horizon : ℕ) (lent : List ℕ) → runAnswer g horizon lent .outcome ≡ checkSchedule g horizon lent
-run-checks g horizon lent = run-outcome g horizon lent
+pub run-outcome-checked : (g : Given) (horizon : ℕ) (lent : List ℕ) → runAnswer g horizon lent .outcome ≡ checkSchedule (g .lists) horizon (length lent)
+run-outcome-checked g horizon lent = run-outcome g horizon lent
 
 pub claim-refused : (g : Given) (horizon : ℕ) (schedule : List ℕ) (number place : ℕ)
-    → claimSaid (claimAnswer g horizon schedule) ≡ refused number place ↔ outcomeSaid (checkSchedule g horizon schedule) ≡ refused number place
+    → claimSaid (claimAnswer g horizon schedule) ≡ refused number place ↔ outcomeSaid (checkSchedule (g .lists) horizon (length schedule)) ≡ refused number place
 claim-refused g horizon schedule number place = exactly.claim-refused g horizon schedule number place
 
 pub verdict-refused : (g : Given) (r : Record) (j number place : ℕ)
@@ -62,12 +64,12 @@ pub verdict-refused : (g : Given) (r : Record) (j number place : ℕ)
 verdict-refused g r j number place = exactly.verdict-refused g r j number place
 
 pub witness-refused : (g : Given) (horizon : ℕ) (schedule : List ℕ) (j number place : ℕ)
-    → witnessSaid (witnessAnswer g horizon schedule j) ≡ refused number place ↔ outcomeSaid (checkWitness g horizon schedule j) ≡ refused number place
+    → witnessSaid (witnessAnswer g horizon schedule j) ≡ refused number place ↔ outcomeSaid (checkWitness (g .lists) horizon (length schedule) j) ≡ refused number place
 witness-refused g horizon schedule j number place = exactly.witness-refused g horizon schedule j number place
 
 -- What the witness check refuses has the empty part.
 pub response-refused : (g : Given) (horizon : ℕ) (schedule : List ℕ) (j number place : ℕ)
-    → outcomeSaid (checkWitness g horizon schedule j) ≡ refused number place → responseAnswer g horizon schedule j ≡ emptyPart
+    → outcomeSaid (checkWitness (g .lists) horizon (length schedule) j) ≡ refused number place → responseAnswer g horizon schedule j ≡ emptyPart
 response-refused g horizon schedule j number place says = exactly.response-refused g horizon schedule j number place says
 
 -- So has an illegal claim, and a job without a finishing instant.
@@ -97,8 +99,9 @@ pub refused-step : (g : Given) (r : Record) (number place : ℕ) → outcomeSaid
     → (stepAnswer g r .«record» ≡ blank) × (stepAnswer g r ≡ refusedStep number place)
 refused-step g r number place says = exactly.step-blank g r number place says
 
--- Both calls from C are refused exactly where the checks of their bytes refuse, with the number plus 256 times the place.
-pub c-refused : (mode : ℕ) (tasks jobs : List ℕ) (horizon : ℕ) (bytes : List ℕ) (number place : ℕ) → outcomeSaid (checkBytes mode tasks jobs horizon bytes) ≡ refused number place
+-- Where the checks of their bytes refuse, both calls from C give the number plus 256 times the place; that they refuse nowhere else is
+-- `c-run-exactly`, `c-legal-exactly` and `c-not-legal-exactly`.
+pub c-refused : (mode : ℕ) (tasks jobs : List ℕ) (horizon : ℕ) (bytes : List ℕ) (number place : ℕ) → outcomeSaid (checkBytes mode tasks jobs horizon (length bytes)) ≡ refused number place
     → (runResult mode tasks jobs horizon bytes ≡ number + 256 * place) × (claimResult mode tasks jobs horizon bytes ≡ number + 256 * place)
 c-refused = c-refused-both
 
@@ -129,30 +132,30 @@ module _ (g : Given) (horizon : ℕ) (lent : List ℕ) (ok : outcomeSaid (runAns
   run-consistent = ran-consistent g horizon lent (run-checked g horizon lent ok)
 
   -- It is also what `step` gives, repeated from the fresh record as often as the horizon says (`stepsFrom g r n`: n times from r) ..
-  pub run-is-steps : runAnswer g horizon lent .«record» ≡ stepsFrom g (freshAnswer (g .tasks) (g .jobs) .«record») horizon
+  pub run-is-steps : runAnswer g horizon lent .«record» ≡ stepsFrom g (freshAnswer (g .lists .tasks) (g .lists .jobs) .«record») horizon
   run-is-steps = ran-steps g horizon lent (run-checked g horizon lent ok)
 
   -- .. where each of those steps is done, and gives the schedule's entry of its tick.
   pub run-each-step : (t : ℕ) → t < horizon
-      → (outcomeSaid (stepAnswer g (stepsFrom g (freshAnswer (g .tasks) (g .jobs) .«record») t) .outcome) ≡ done)
-      × (getD (runSchedule g horizon lent) t idle ≡ stepAnswer g (stepsFrom g (freshAnswer (g .tasks) (g .jobs) .«record») t) .entry)
+      → (outcomeSaid (stepAnswer g (stepsFrom g (freshAnswer (g .lists .tasks) (g .lists .jobs) .«record») t) .outcome) ≡ done)
+      × (getD (runSchedule g horizon lent) t idle ≡ stepAnswer g (stepsFrom g (freshAnswer (g .lists .tasks) (g .lists .jobs) .«record») t) .entry)
   run-each-step t l = let c = run-checked g horizon lent ok in (ran-step-done g horizon lent c t l, ran-entry g horizon lent c t l)
 
 -- A claim is answered "legal" exactly when its input passes the checks and every one of its ticks is legal, earlier entries taken as
 -- given (`LegalAt` in Readings) ..
 module _ (g : Given) (horizon : ℕ) (schedule : List ℕ) where
   pub legal-exactly : claimSaid (claimAnswer g horizon schedule) ≡ legal
-      ↔ (outcomeSaid (checkSchedule g horizon schedule) ≡ done) × ((t : ℕ) → t < horizon → LegalAt g schedule t)
+      ↔ (outcomeSaid (checkSchedule (g .lists) horizon (length schedule)) ≡ done) × ((t : ℕ) → t < horizon → LegalAt g schedule t)
   legal-exactly = exactly.legal-exactly g horizon schedule
 
   -- .. and "not legal at t" exactly when it passes them and t is the least of its ticks that is not legal.
   pub not-legal-exactly : (t : ℕ) → claimSaid (claimAnswer g horizon schedule) ≡ notLegal t
-      ↔ (outcomeSaid (checkSchedule g horizon schedule) ≡ done) × LeastIllegal g schedule t
+      ↔ (outcomeSaid (checkSchedule (g .lists) horizon (length schedule)) ≡ done) × LeastIllegal g schedule t
   not-legal-exactly = exactly.not-legal-exactly g horizon schedule
 
   -- A witness is accepted exactly when its schedule is legal and the named job is in the list and late or ended in it.
   pub witness-exactly : (j : ℕ) → witnessSaid (witnessAnswer g horizon schedule j) ≡ accepted
-      ↔ (claimSaid (claimAnswer g horizon schedule) ≡ legal) × (j < jobCount (g .jobs))
+      ↔ (claimSaid (claimAnswer g horizon schedule) ≡ legal) × (j < jobCount (g .lists .jobs))
       × ((verdictSaid (verdictAnswer g (replayed g schedule) j) ≡ late) ⊎ (verdictSaid (verdictAnswer g (replayed g schedule) j) ≡ ended))
   witness-exactly j = (accepted-says g horizon schedule j, λ w. missed-accepted g horizon schedule j (w .0) (w .1) (w .2))
 
@@ -160,13 +163,13 @@ module _ (g : Given) (horizon : ℕ) (schedule : List ℕ) where
 -- unfinished with the record's tick at or past that instant, ended when it was ended.
 module _ (g : Given) (r : Record) (j : ℕ) where
   pub met-exactly : verdictSaid (verdictAnswer g r j) ≡ met
-      ↔ (outcomeSaid (checkVerdict g r j) ≡ done) × ((f : ℕ) × (standingSaid (standingAt r j) ≡ finishedAt f) × (f ≤ deadlineInstant g j))
+      ↔ (outcomeSaid (checkVerdict g r j) ≡ done) × ((f : ℕ) × (standingSaid (standingAt r j) ≡ finishedAt f) × (f ≤ deadlineInstant (g .lists) j))
   met-exactly = exactly.met-exactly g r j
 
   pub late-exactly : verdictSaid (verdictAnswer g r j) ≡ late
       ↔ (outcomeSaid (checkVerdict g r j) ≡ done)
-      × (((f : ℕ) × (standingSaid (standingAt r j) ≡ finishedAt f) × (deadlineInstant g j < f))
-      ⊎ ((standingSaid (standingAt r j) ≡ unfinished) × (deadlineInstant g j ≤ r .tick)))
+      × (((f : ℕ) × (standingSaid (standingAt r j) ≡ finishedAt f) × (deadlineInstant (g .lists) j < f))
+      ⊎ ((standingSaid (standingAt r j) ≡ unfinished) × (deadlineInstant (g .lists) j ≤ r .tick)))
   late-exactly = exactly.late-exactly g r j
 
   pub ended-exactly : verdictSaid (verdictAnswer g r j) ≡ ended
@@ -182,15 +185,15 @@ module _ (mode : ℕ) (tasks jobs : List ℕ) (horizon : ℕ) (bytes : List ℕ)
   unfolding outcomeSaid
   c-run-done e = let w = c-run-zero mode tasks jobs horizon bytes e in (ap outcomeSaid (run-outcome _ horizon (numbers2 bytes) ∙ w .0), w .1)
 
-  pub c-run-exactly : runResult mode tasks jobs horizon bytes ≡ 0 ↔ outcomeSaid (checkBytes mode tasks jobs horizon bytes) ≡ done
+  pub c-run-exactly : runResult mode tasks jobs horizon bytes ≡ 0 ↔ outcomeSaid (checkBytes mode tasks jobs horizon (length bytes)) ≡ done
   c-run-exactly = called.c-run-exactly mode tasks jobs horizon bytes
 
   pub c-legal-exactly : claimResult mode tasks jobs horizon bytes ≡ 0
-      ↔ (outcomeSaid (checkBytes mode tasks jobs horizon bytes) ≡ done) × (claimSaid (claimAnswer (givenBytes mode tasks jobs) horizon (numbers2 bytes)) ≡ legal)
+      ↔ (outcomeSaid (checkBytes mode tasks jobs horizon (length bytes)) ≡ done) × (claimSaid (claimAnswer (givenBytes mode tasks jobs) horizon (numbers2 bytes)) ≡ legal)
   c-legal-exactly = called.c-legal-exactly mode tasks jobs horizon bytes
 
   pub c-not-legal-exactly : (t : ℕ) → claimResult mode tasks jobs horizon bytes ≡ 65536 + t
-      ↔ (outcomeSaid (checkBytes mode tasks jobs horizon bytes) ≡ done) × (claimSaid (claimAnswer (givenBytes mode tasks jobs) horizon (numbers2 bytes)) ≡ notLegal t)
+      ↔ (outcomeSaid (checkBytes mode tasks jobs horizon (length bytes)) ≡ done) × (claimSaid (claimAnswer (givenBytes mode tasks jobs) horizon (numbers2 bytes)) ≡ notLegal t)
   c-not-legal-exactly = called.c-not-legal-exactly mode tasks jobs horizon bytes
 
   pub c-run-is-legal : runResult mode tasks jobs horizon bytes ≡ 0 → claimResult mode tasks jobs horizon (runBytes mode tasks jobs horizon bytes) ≡ 0
@@ -201,12 +204,7 @@ module _ (mode : ℕ) (tasks jobs : List ℕ) (horizon : ℕ) (bytes : List ℕ)
 module _ (g : Given) (horizon : ℕ) (schedule : List ℕ) (ok : claimSaid (claimAnswer g horizon schedule) ≡ legal) where
   -- The record before each of its ticks, and the one at its end, is consistent.
   pub always-consistent : (t : ℕ) → consistent g (recordBefore g schedule t) ≡ true
-  unfolding claim recordBefore
-  always-consistent t =
-      let c = is-legal g horizon schedule ok in
-      let a = c .input in
-      kept-at g 16384 (λ r. consistent g r ≡ true) (λ r p e b l s. advanced-consistent g r e b (legal-dispatch g r p e l) s) (fresh (g .jobs)) idle
-      schedule (rw tick-fresh (omega arith)) (c .legal) (fresh-consistent g) t
+  always-consistent t = let c = is-legal g horizon schedule ok in let a = c .input in legal-consistent g schedule (omega arith) (c .legal) t
 
   -- A job that is neither finished nor ended at t.
   pub record Pending (t j : ℕ) : Type 0 where
@@ -216,59 +214,59 @@ module _ (g : Given) (horizon : ℕ) (schedule : List ℕ) (ok : claimSaid (clai
   -- The tick t is not idle, and does not go to a job less critical than j.
   pub record Served (t j : ℕ) : Type 0 where
     pub not-idle : getD schedule t idle ≡ idle → ⊥
-    pub a-job : getD schedule t idle < jobCount (g .jobs)
-    pub no-less : jobCriticality g j ≤ jobCriticality g (getD schedule t idle)
+    pub a-job : getD schedule t idle < jobCount (g .lists .jobs)
+    pub no-less : jobCriticality (g .lists) j ≤ jobCriticality (g .lists) (getD schedule t idle)
 
   -- (i) From a job's zero-slack instant until it finishes or is ended, no tick is idle and none goes to a less critical job.
-  pub served : (t j : ℕ) → t < horizon → j < jobCount (g .jobs) → zeroSlackInstant g j ≤ t → Pending t j → Served t j
-  unfolding claim recordBefore zeroSlackInstant standingSaid
+  pub served : (t j : ℕ) → t < horizon → j < jobCount (g .lists .jobs) → zeroSlackInstant (g .lists) j ≤ t → Pending t j → Served t j
+  unfolding recordBefore zeroSlackInstant standingSaid
   served t j h l z wait =
       let c = is-legal g horizon schedule ok in
       let a = c .input in
-      let few = few-jobs (g .tasks) (g .jobs) (a .jobs) in
+      let few = lists-few (g .lists) (a .lists) in
       let here : recordBefore g schedule t .tick ≡ t = tick-recordBefore g schedule t (omega arith) in
       let lives = pending-alive g (recordBefore g schedule t) (always-consistent t) j l few (omega arith)
       (λ f q. wait .not-finished f (ap standingSaid q)) (λ e q. wait .not-ended e (ap standingSaid q)) in
       let w = dispatch-serves g (recordBefore g schedule t) (getD schedule t idle) j
-      (legal-dispatch g (recordBefore g schedule t) _ (getD schedule t idle) (legal-at g (fresh (g .jobs)) idle schedule (c .legal) t (omega arith))) l
-      (past-of g (recordBefore g schedule t) j lives (omega arith)) in
+      (legal-may g (recordBefore g schedule t) _ (getD schedule t idle) (legal-at g (fresh (g .lists .jobs)) idle schedule (c .legal) t (omega arith))) l
+      (past-exactly g (recordBefore g schedule t) j .1 (lives, omega arith)) in
       record { not-idle = λ e. omega arith; a-job = w .job; no-less = w .no-less }
 
   -- (ii) If one task is strictly more critical than all others and its zero-slack offset plus overload time is within its deadline,
   -- each of its jobs finishes by arrival + offset + its own execution time, if the horizon reaches that far ..
-  module _ (k : ℕ) (top : Topmost (g .tasks) k) (j : ℕ) (l : j < jobCount (g .jobs)) (its : taskOf (g .jobs) j ≡ k) where
+  module _ (k : ℕ) (top : Topmost (g .lists .tasks) k) (j : ℕ) (l : j < jobCount (g .lists .jobs)) (its : taskOf (g .lists .jobs) j ≡ k) where
     finished : assured g j ≤ horizon → (f : ℕ) × (standingAt (replayed g schedule) j ≡ Finished f) × (f ≤ assured g j)
     finished h =
         let c = is-legal g horizon schedule ok in
         let a = c .input in
-        topmost-finished g k (a .tasks) (a .jobs) top schedule (omega arith) (c .legal) j (record { job = l; its = its }) (omega arith)
+        topmost-finished g k (lists-tasks (g .lists) (a .lists)) (lists-jobs (g .lists) (a .lists)) top schedule (omega arith) (c .legal) j (record { job = l; its = its }) (omega arith)
 
     pub finishes-by : assured g j ≤ horizon → (f : ℕ) × (standingSaid (standingAt (replayed g schedule) j) ≡ finishedAt f) × (f ≤ assured g j)
     unfolding standingSaid
     finishes-by h = let w = finished h in (w .0, ap standingSaid (w .1), w .2)
 
     -- .. and so is judged met, where its deadline lies within the horizon.
-    pub meets : deadlineInstant g j ≤ horizon → verdictSaid (verdictAnswer g (replayed g schedule) j) ≡ met
+    pub meets : deadlineInstant (g .lists) j ≤ horizon → verdictSaid (verdictAnswer g (replayed g schedule) j) ≡ met
     unfolding verdictSaid
     meets h =
         let c = is-legal g horizon schedule ok in
         let a = c .input in
-        let t = assured-in-time g k (a .jobs) top j l its in
+        let t = assured-in-time g k (lists-jobs (g .lists) (a .lists)) top j l its in
         let w = finished (omega arith) in
         let end : consistent g (replayed g schedule) ≡ true = subst (λ (r : Record). consistent g r ≡ true) (replayed-is g schedule horizon (a .whole)) (always-consistent horizon) in
         ap verdictSaid (met-answer g (a .lists) (replayed g schedule) end j l (w .0) (w .1) (omega (arith, w .2)))
 
     -- So no witness is accepted against it: the answer is "not missed".
-    pub never-blamed : deadlineInstant g j ≤ horizon → witnessSaid (witnessAnswer g horizon schedule j) ≡ notMissed
+    pub never-blamed : deadlineInstant (g .lists) j ≤ horizon → witnessSaid (witnessAnswer g horizon schedule j) ≡ notMissed
     never-blamed h = met-not-missed g horizon schedule ok j l (meets h)
 
   -- ## The part that is shown of a job that finished at f: the schedule's entries from its arrival up to f
 
-  pub part-shown : (j f : ℕ) → j < jobCount (g .jobs) → standingSaid (standingAt (replayed g schedule) j) ≡ finishedAt f
-      → (responseAnswer g horizon schedule j .from ≡ arrival (g .jobs) j)
-      × (length (responseAnswer g horizon schedule j .entries) ≡ f - arrival (g .jobs) j)
+  pub part-shown : (j f : ℕ) → j < jobCount (g .lists .jobs) → standingSaid (standingAt (replayed g schedule) j) ≡ finishedAt f
+      → (responseAnswer g horizon schedule j .from ≡ arrival (g .lists .jobs) j)
+      × (length (responseAnswer g horizon schedule j .entries) ≡ f - arrival (g .lists .jobs) j)
       × ((i : ℕ) → i < length (responseAnswer g horizon schedule j .entries)
-      → getD (responseAnswer g horizon schedule j .entries) i idle ≡ getD schedule (arrival (g .jobs) j + i) idle)
+      → getD (responseAnswer g horizon schedule j .entries) i idle ≡ getD schedule (arrival (g .lists .jobs) j + i) idle)
   unfolding standingSaid
   part-shown j f l says =
       let q = standing-said (standingAt (replayed g schedule) j) (Finished f) says in

@@ -2,35 +2,26 @@
 -- checks for what it is given.
 use Prim.Native.Nat.{ℕ, zero, suc}
 use mathlib.Core.List.{List}
-use Rattle.zsrm.specs.declared.tables.Mode.{Mode}
+use lib.ListN.{length}
 use Rattle.zsrm.specs.declared.record.Record.{Record}
-use Rattle.zsrm.specs.declared.answers.Outcome.{Outcome}
-use Rattle.zsrm.specs.declared.answers.Outcome.the-variants.{Done, Refused}
+use Rattle.tables.specs.declared.outcome.Outcome.{Outcome}
+use Rattle.tables.specs.declared.outcome.Outcome.the-variants.{Done, Refused}
 use Rattle.zsrm.specs.declared.answers.Ran.{Ran}
 use Rattle.zsrm.specs.declared.answers.Stepped.{Stepped}
 use Rattle.zsrm.specs.declared.answers.Claim.{Claim}
-use Rattle.zsrm.specs.declared.answers.Claim.the-variants as claims
 use Rattle.zsrm.specs.declared.answers.Verdict.{Verdict}
-use Rattle.zsrm.specs.declared.answers.Verdict.the-variants as verdicts
 use Rattle.zsrm.specs.declared.answers.Witness.{Witness}
-use Rattle.zsrm.specs.declared.answers.Witness.the-variants as witnesses
-use Rattle.zsrm.specs.Tables.{Given}
-use Rattle.zsrm.specs.Refusals.{before, checkLists, check9, check10, check11, check12, check13}
-use Rattle.zsrm.specs.Record.{blank, fresh, consistent}
+use Rattle.zsrm.specs.Given.{Given}
+use Rattle.tables.specs.Refusals.{before, checkLists, check9, check10, check13, unless}
+use Rattle.zsrm.specs.Record.{check11, check12, blank, fresh, consistent}
 use Rattle.zsrm.specs.Tick.{choice, readyWord, readyCount, endedWord, advanced}
 use Rattle.zsrm.specs.Run.{runEntries, runRecord}
 use Rattle.zsrm.specs.Legal.{claim}
 use Rattle.zsrm.specs.Verdict.{Part, emptyPart, part, verdict, witness}
-
--- what a schedule is made from, as the entry points are given it
-abbrev pub given : Mode → List ℕ → List ℕ → Given
-given mode tasks jobs = record { mode = mode; tasks = tasks; jobs = jobs }
-
-module _ {A : Type 0} where
-  -- what a refusal's number and place give, or the answer where nothing is refused
-  unfoldable pub unless : Outcome → (ℕ → ℕ → A) → A → A
-  unless (Refused number place) refused answer = refused number place
-  unless Done refused answer = answer
+use Rattle.tables.specs.Tables.{Lists, lists}
+use Rattle.zsrm.specs.declared.answers.Claim.the-variants as claims
+use Rattle.zsrm.specs.declared.answers.Verdict.the-variants as verdicts
+use Rattle.zsrm.specs.declared.answers.Witness.the-variants as witnesses
 
 -- A refused answer's record is blank.
 unfoldable pub ran : Outcome → Record → Ran
@@ -55,28 +46,26 @@ stepped g r =
 
 -- The fresh record, whatever record the method is called on.
 unfoldable pub freshAnswer : List ℕ → List ℕ → Ran
-freshAnswer tasks jobs = ran (checkLists tasks jobs) (fresh jobs)
+freshAnswer tasks jobs = ran (checkLists (lists tasks jobs)) (fresh jobs)
+
+-- The checks, in the order of their numbers: lists 2 to 8; step 11, 12; run and claim 9, 10; verdict 11, 13; witness 9, 10, 13. Of a
+-- schedule the number of its entries is checked.
+unfoldable pub checkSchedule : Lists → ℕ → ℕ → Outcome
+checkSchedule l horizon entries = before (checkLists l) (before (check9 horizon) (check10 entries horizon))
+
+unfoldable pub checkWitness : Lists → ℕ → ℕ → ℕ → Outcome
+checkWitness l horizon entries j = before (checkSchedule l horizon entries) (check13 (l .jobs) j)
+
+unfoldable pub checkStep : Given → Record → Outcome
+checkStep g r = before (checkLists (g .lists)) (before (check11 (consistent g r)) (check12 (r .tick)))
+
+unfoldable pub checkVerdict : Given → Record → ℕ → Outcome
+checkVerdict g r j = before (checkLists (g .lists)) (before (check11 (consistent g r)) (check13 (g .lists .jobs) j))
 
 module _ (g : Given) where
-  -- The checks, in the order of their numbers: lists 2 to 8; step 11, 12; run and claim 9, 10; verdict 11, 13; witness 9, 10, 13.
-  unfoldable pub checkGiven : Outcome
-  checkGiven = checkLists (g .tasks) (g .jobs)
-
-  unfoldable pub checkStep : Record → Outcome
-  checkStep r = before checkGiven (before (check11 (consistent g r)) (check12 (r .tick)))
-
-  unfoldable pub checkSchedule : ℕ → List ℕ → Outcome
-  checkSchedule horizon schedule = before checkGiven (before (check9 horizon) (check10 schedule horizon))
-
-  unfoldable pub checkVerdict : Record → ℕ → Outcome
-  checkVerdict r j = before checkGiven (before (check11 (consistent g r)) (check13 (g .jobs) j))
-
-  unfoldable pub checkWitness : ℕ → List ℕ → ℕ → Outcome
-  checkWitness horizon schedule j = before (checkSchedule horizon schedule) (check13 (g .jobs) j)
-
   -- The entry points that are given a mode; a fresh record needs none.
   unfoldable pub stepAnswer : Record → Stepped
-  stepAnswer r = unless (checkStep r) refusedStep (stepped g r)
+  stepAnswer r = unless (checkStep g r) refusedStep (stepped g r)
 
   -- what `step` gives, repeated n times from r
   unfoldable pub stepsFrom : Record → ℕ → Record
@@ -84,21 +73,21 @@ module _ (g : Given) where
   stepsFrom r (suc n) = stepAnswer (stepsFrom r n) .«record»
 
   unfoldable pub runAnswer : ℕ → List ℕ → Ran
-  runAnswer horizon schedule = ran (checkSchedule horizon schedule) (runRecord g horizon)
+  runAnswer horizon schedule = ran (checkSchedule (g .lists) horizon (length schedule)) (runRecord g horizon)
 
   -- what the lent schedule holds after a run: its own entries, or what it held
   unfoldable pub runSchedule : ℕ → List ℕ → List ℕ
-  runSchedule horizon schedule = unless (checkSchedule horizon schedule) (λ number place. schedule) (runEntries g horizon)
+  runSchedule horizon schedule = unless (checkSchedule (g .lists) horizon (length schedule)) (λ number place. schedule) (runEntries g horizon)
 
   unfoldable pub claimAnswer : ℕ → List ℕ → Claim
-  claimAnswer horizon schedule = unless (checkSchedule horizon schedule) claims.Refused (claim g schedule)
+  claimAnswer horizon schedule = unless (checkSchedule (g .lists) horizon (length schedule)) claims.Refused (claim g schedule)
 
   unfoldable pub verdictAnswer : Record → ℕ → Verdict
-  verdictAnswer r j = unless (checkVerdict r j) verdicts.Refused (verdict g r j)
+  verdictAnswer r j = unless (checkVerdict g r j) verdicts.Refused (verdict (g .lists) r j)
 
   unfoldable pub witnessAnswer : ℕ → List ℕ → ℕ → Witness
-  witnessAnswer horizon schedule j = unless (checkWitness horizon schedule j) witnesses.Refused (witness g schedule j)
+  witnessAnswer horizon schedule j = unless (checkWitness (g .lists) horizon (length schedule) j) witnesses.Refused (witness g schedule j)
 
   -- refused input and a job not in the list give the empty part
   unfoldable pub responseAnswer : ℕ → List ℕ → ℕ → Part
-  responseAnswer horizon schedule j = unless (checkWitness horizon schedule j) (λ number place. emptyPart) (part g schedule j)
+  responseAnswer horizon schedule j = unless (checkWitness (g .lists) horizon (length schedule) j) (λ number place. emptyPart) (part g schedule j)

@@ -4,33 +4,28 @@ use Prim.Native.Nat.{ℕ, _+_, _*_, _/_, _%_}
 use mathlib.Core.Bool.{not, cond}
 use mathlib.Core.List.{List, [], _∷_}
 use lib.ListN.{length, getD}
-use lib.Dec.{eqb}
+use lib.Dec.{eqb, ltb}
 use Rattle.bits.specs.Below.{listFrom}
-use Rattle.zsrm.specs.declared.tables.Mode.{Mode}
-use Rattle.zsrm.specs.declared.tables.Mode.the-variants.{S, SE}
-use Rattle.zsrm.specs.declared.answers.Outcome.{Outcome}
-use Rattle.zsrm.specs.declared.answers.Outcome.the-variants.{Done, Refused}
+use Rattle.zsrm.specs.declared.mode.Mode.{Mode}
+use Rattle.zsrm.specs.declared.mode.Mode.the-variants.{S, SE}
+use Rattle.tables.specs.declared.outcome.Outcome.{Outcome}
+use Rattle.tables.specs.declared.outcome.Outcome.the-variants.{Done, Refused}
 use Rattle.zsrm.specs.declared.answers.Claim.{Claim}
-use Rattle.zsrm.specs.declared.answers.Claim.the-variants as claims
-use Rattle.zsrm.specs.Tables.{Given}
-use Rattle.zsrm.specs.Refusals.{refuse, before, check1, checkTasks, checkJobs, check9, check10}
+use Rattle.zsrm.specs.Given.{Given, given}
+use Rattle.tables.specs.Refusals.{refuse, before, checkTasks, checkJobs, check9, check10, unless}
 use Rattle.zsrm.specs.Run.{runEntries}
 use Rattle.zsrm.specs.Legal.{claim}
-use Rattle.zsrm.specs.Answers.{given, unless}
+use Rattle.tables.specs.Bytes.{numberAt}
+use Rattle.zsrm.specs.declared.answers.Claim.the-variants as claims
 
 module _ (bytes : List ℕ) where
-  -- the number at place i, of four bytes or of two, its lowest byte first
-  unfoldable pub number4 : ℕ → ℕ
-  number4 i =
-      getD bytes (i * 4) 0 + getD bytes (i * 4 + 1) 0 * 256 + getD bytes (i * 4 + 2) 0 * 65536
-      + getD bytes (i * 4 + 3) 0 * 16777216
+  -- the list of numbers of four bytes each
+  unfoldable pub numbers4 : List ℕ
+  numbers4 = listFrom 0 (length bytes / 4) (λ i. numberAt bytes (i * 4))
 
+  -- the number of two bytes at place i, its lowest byte first, and the list
   unfoldable pub number2 : ℕ → ℕ
   number2 i = getD bytes (i * 2) 0 + getD bytes (i * 2 + 1) 0 * 256
-
-  -- the whole list
-  unfoldable pub numbers4 : List ℕ
-  numbers4 = listFrom 0 (length bytes / 4) number4
 
   unfoldable pub numbers2 : List ℕ
   numbers2 = listFrom 0 (length bytes / 2) number2
@@ -44,21 +39,25 @@ bytes2 (e ∷ es) = e % 256 ∷ e / 256 ∷ bytes2 es
 unfoldable pub modeOf : ℕ → Mode
 modeOf number = cond (eqb number 0) S SE
 
+-- 1: the mode number is neither 0 nor 1
+unfoldable pub check1 : ℕ → Outcome
+check1 mode = refuse (ltb 1 mode) 1 0
+
 -- A byte count that makes no whole number of list entries gives that list's length refusal.
-unfoldable pub uneven : List ℕ → ℕ → ℕ → Outcome
-uneven bytes width number = refuse (not (eqb (length bytes % width) 0)) number 0
+unfoldable pub uneven : ℕ → ℕ → ℕ → Outcome
+uneven count width number = refuse (not (eqb (count % width) 0)) number 0
 
 -- what the bytes of the lists say
 unfoldable pub givenBytes : ℕ → List ℕ → List ℕ → Given
 givenBytes mode tasks jobs = given (modeOf mode) (numbers4 tasks) (numbers4 jobs)
 
--- 1, 2, the tasks, 5, the jobs, 9, 10
-unfoldable pub checkBytes : ℕ → List ℕ → List ℕ → ℕ → List ℕ → Outcome
-checkBytes mode tasks jobs horizon schedule =
+-- 1, 2, the tasks, 5, the jobs, 9, 10; of the schedule the count of its bytes is checked
+unfoldable pub checkBytes : ℕ → List ℕ → List ℕ → ℕ → ℕ → Outcome
+checkBytes mode tasks jobs horizon count =
     before (check1 mode)
-    (before (before (uneven tasks 4 2) (checkTasks (numbers4 tasks)))
-    (before (before (uneven jobs 4 5) (checkJobs (numbers4 tasks) (numbers4 jobs)))
-    (before (check9 horizon) (before (uneven schedule 2 10) (check10 (numbers2 schedule) horizon)))))
+    (before (before (uneven (length tasks) 4 2) (checkTasks (numbers4 tasks)))
+    (before (before (uneven (length jobs) 4 5) (checkJobs (numbers4 tasks) (numbers4 jobs)))
+    (before (check9 horizon) (before (uneven count 2 10) (check10 (count / 2) horizon)))))
 
 -- 0 for done, or a refusal's number plus 256 times its place
 unfoldable pub packedOutcome : Outcome → ℕ
@@ -73,15 +72,15 @@ packedClaim (claims.NotLegal t) = 65536 + t
 
 module _ (mode : ℕ) (tasks jobs : List ℕ) (horizon : ℕ) (schedule : List ℕ) where
   unfoldable pub runResult : ℕ
-  runResult = packedOutcome (checkBytes mode tasks jobs horizon schedule)
+  runResult = packedOutcome (checkBytes mode tasks jobs horizon (length schedule))
 
   -- what the schedule's bytes are afterwards
   unfoldable pub runBytes : List ℕ
   runBytes =
-      unless (checkBytes mode tasks jobs horizon schedule) (λ number place. schedule)
+      unless (checkBytes mode tasks jobs horizon (length schedule)) (λ number place. schedule)
       (bytes2 (runEntries (givenBytes mode tasks jobs) horizon))
 
   unfoldable pub claimResult : ℕ
   claimResult =
       packedClaim
-      (unless (checkBytes mode tasks jobs horizon schedule) claims.Refused (claim (givenBytes mode tasks jobs) (numbers2 schedule)))
+      (unless (checkBytes mode tasks jobs horizon (length schedule)) claims.Refused (claim (givenBytes mode tasks jobs) (numbers2 schedule)))

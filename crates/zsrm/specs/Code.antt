@@ -1,5 +1,5 @@
 -- How the code computes, word by word and place by place. No contract that callers see cites it; proofs/Laws joins it to the rules.
-pub mod Fields
 pub mod View
 pub mod Next
 pub mod Claims
+pub mod Called

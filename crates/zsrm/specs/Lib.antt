@@ -1,5 +1,4 @@
-pub mod Tables
-pub mod Refusals
+pub mod Given
 pub mod Record
 pub mod Tick
 pub mod Run

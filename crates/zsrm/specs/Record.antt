@@ -1,17 +1,18 @@
 -- Document 01, "The record": what stands at a place, the blank and the fresh record, and when a record is consistent.
 use Prim.Native.Nat.{ℕ, _+_}
-use mathlib.Core.Bool.{Bool, true, false, not, _&&_, cond}
+use mathlib.Core.Bool.{Bool, not, _&&_, cond}
 use mathlib.Core.List.{List}
 use lib.ListN.{getD, replicate}
 use lib.Dec.{leb, ltb, eqb}
 use Rattle.bits.specs.Below.{every, listFrom}
-use Rattle.zsrm.specs.declared.tables.Mode.{Mode}
-use Rattle.zsrm.specs.declared.tables.Mode.the-variants.{S, SE}
 use Rattle.zsrm.specs.declared.record.Standing.{Standing}
 use Rattle.zsrm.specs.declared.record.Standing.the-variants.{NotArrived, Unfinished, Finished, Ended}
 use Rattle.zsrm.specs.declared.record.Place.{Place}
 use Rattle.zsrm.specs.declared.record.Record.{Record}
-use Rattle.zsrm.specs.Tables.{Given, jobCount, arrival, execution}
+use Rattle.zsrm.specs.Given.{Given, isSE}
+use Rattle.tables.specs.declared.outcome.Outcome.{Outcome}
+use Rattle.tables.specs.Refusals.{refuse}
+use Rattle.tables.specs.Tables.{jobCount, arrival, execution}
 
 -- not arrived with 0 done
 abbrev pub empty : Place
@@ -29,10 +30,6 @@ standingAt r j = placeAt r j .standing
 -- A refusal's record holds tick 0 and 64 places not arrived with 0 done.
 unfoldable pub blank : Record
 blank = record { tick = 0; places = replicate 64 empty }
-
-abbrev pub isSE : Mode → Bool
-isSE S = false
-isSE SE = true
 
 -- The place j is a job's, and the job's arrival does not exceed t.
 unfoldable pub arrived : List ℕ → ℕ → ℕ → Bool
@@ -66,9 +63,17 @@ soundPlace se here a c t done (Ended e) = se && here && ltb done c && leb (a + d
 
 unfoldable pub soundAt : Given → Record → ℕ → Bool
 soundAt g r j =
-    soundPlace (isSE (g .mode)) (arrived (g .jobs) (r .tick) j) (arrival (g .jobs) j) (execution (g .jobs) j) (r .tick) (doneAt r j)
+    soundPlace (isSE (g .mode)) (arrived (g .lists .jobs) (r .tick) j) (arrival (g .lists .jobs) j) (execution (g .lists .jobs) j) (r .tick) (doneAt r j)
     (standingAt r j)
 
 -- t ≤ 16,384, and every place is sound.
 unfoldable pub consistent : Given → Record → Bool
 consistent g r = leb (r .tick) 16384 && every 64 (soundAt g r)
+
+-- 11: the record is not consistent with the jobs
+unfoldable pub check11 : Bool → Outcome
+check11 isConsistent = refuse (not isConsistent) 11 0
+
+-- 12: a step is asked at tick 16,384
+unfoldable pub check12 : ℕ → Outcome
+check12 tick = refuse (eqb tick 16384) 12 0

@@ -3,7 +3,7 @@ use Prim.Native.Nat.{ℕ, zero, suc}
 use mathlib.Core.List.{List, [], _∷_}
 use lib.ListN.{take}
 use Rattle.zsrm.specs.declared.record.Record.{Record}
-use Rattle.zsrm.specs.Tables.{Given}
+use Rattle.zsrm.specs.Given.{Given}
 use Rattle.zsrm.specs.Record.{fresh}
 use Rattle.zsrm.specs.Tick.{choice, advanced}
 
@@ -18,19 +18,16 @@ module _ (g : Given) where
   entriesBy pick r zero = []
   entriesBy pick r (suc n) = pick r ∷ entriesBy pick (advanced g r (pick r)) n
 
-  -- our run from any record: its entries, and the record it ends with
-  unfoldable pub entries : Record → ℕ → List ℕ
-  entries r n = entriesBy (choice g) r n
-
-  unfoldable pub final : Record → ℕ → Record
-  final r n = replay r (entries r n)
+  -- the record that it ends with
+  unfoldable pub finalBy : (Record → ℕ) → Record → ℕ → Record
+  finalBy pick r n = replay r (entriesBy pick r n)
 
   -- our run
   unfoldable pub runEntries : ℕ → List ℕ
-  runEntries horizon = entries (fresh (g .jobs)) horizon
+  runEntries horizon = entriesBy (choice g) (fresh (g .lists .jobs)) horizon
 
   unfoldable pub runRecord : ℕ → Record
-  runRecord horizon = final (fresh (g .jobs)) horizon
+  runRecord horizon = finalBy (choice g) (fresh (g .lists .jobs)) horizon
 
   -- the record before tick t of a schedule that starts at r
   unfoldable pub recordAt : Record → List ℕ → ℕ → Record
@@ -38,8 +35,8 @@ module _ (g : Given) where
 
   -- the same from the fresh record: earlier entries taken as given
   unfoldable pub recordBefore : List ℕ → ℕ → Record
-  recordBefore schedule t = recordAt (fresh (g .jobs)) schedule t
+  recordBefore schedule t = recordAt (fresh (g .lists .jobs)) schedule t
 
   -- the record after a schedule's last tick
   unfoldable pub replayed : List ℕ → Record
-  replayed schedule = replay (fresh (g .jobs)) schedule
+  replayed schedule = replay (fresh (g .lists .jobs)) schedule

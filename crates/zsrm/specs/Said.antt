@@ -1,30 +1,17 @@
--- Every answer said in numbers, and each under its name: what the promises speak in. A refusal is its number and its place; document 01
--- has the numbers of "done", "legal" and "not legal at t", the others are ours. Within one kind of answer equal numbers are equal answers
--- (proofs/Laws/Said).
+-- Every answer said in numbers, and each under its name: what the promises speak in. A refusal is its number and its place, two numbers as
+-- in every kind of answer (`refused` in tables, beside `done`); every other answer is one. Document 01 has the numbers of "legal" and "not
+-- legal at t", the others are ours. Within one kind of answer equal numbers are equal answers (proofs/Laws/Said).
 use Prim.Native.Nat.{ℕ, _+_}
 use mathlib.Core.List.{List, [], _∷_}
 use Rattle.zsrm.specs.declared.record.Standing.{Standing}
-use Rattle.zsrm.specs.declared.record.Standing.the-variants as standings
-use Rattle.zsrm.specs.declared.answers.Outcome.{Outcome}
-use Rattle.zsrm.specs.declared.answers.Outcome.the-variants as outcomes
 use Rattle.zsrm.specs.declared.answers.Claim.{Claim}
-use Rattle.zsrm.specs.declared.answers.Claim.the-variants as claims
 use Rattle.zsrm.specs.declared.answers.Verdict.{Verdict}
-use Rattle.zsrm.specs.declared.answers.Verdict.the-variants as verdicts
 use Rattle.zsrm.specs.declared.answers.Witness.{Witness}
+use Rattle.tables.specs.Said.{refused}
+use Rattle.zsrm.specs.declared.record.Standing.the-variants as standings
+use Rattle.zsrm.specs.declared.answers.Claim.the-variants as claims
+use Rattle.zsrm.specs.declared.answers.Verdict.the-variants as verdicts
 use Rattle.zsrm.specs.declared.answers.Witness.the-variants as witnesses
-
--- Refused with a number and a place: two numbers, in every kind of answer. Every other answer is one number.
-abbrev pub refused : ℕ → ℕ → List ℕ
-refused number place = number ∷ place ∷ []
-
--- of a run, a step, a fresh record
-abbrev pub done : List ℕ
-done = 0 ∷ []
-
-unfoldable pub outcomeSaid : Outcome → List ℕ
-outcomeSaid outcomes.Done = done
-outcomeSaid (outcomes.Refused number place) = refused number place
 
 -- of a claim, and of a witness that is none because its schedule is not legal
 abbrev pub legal : List ℕ

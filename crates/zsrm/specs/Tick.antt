@@ -1,15 +1,16 @@
 -- Document 01, "One tick".
 use Prim.Native.Nat.{ℕ, suc, _+_}
-use mathlib.Core.Bool.{Bool, true, false, not, _&&_, cond}
 use mathlib.Core.List.{List}
+use mathlib.Core.Bool.{Bool, true, false, not, _&&_, cond}
 use lib.Dec.{leb, ltb, eqb}
 use Rattle.bits.specs.Below.{some, least, count, word, listFrom}
 use Rattle.zsrm.specs.declared.record.Standing.{Standing}
 use Rattle.zsrm.specs.declared.record.Standing.the-variants.{NotArrived, Unfinished, Finished, Ended}
 use Rattle.zsrm.specs.declared.record.Place.{Place}
 use Rattle.zsrm.specs.declared.record.Record.{Record}
-use Rattle.zsrm.specs.Tables.{Given, idle, jobCount, execution, jobCriticality, jobPriority, jobNominal, zeroSlackInstant}
-use Rattle.zsrm.specs.Record.{isSE, doneAt, standingAt, opening}
+use Rattle.zsrm.specs.Given.{Given, isSE}
+use Rattle.tables.specs.Tables.{idle, jobCount, execution, jobCriticality, jobPriority, jobNominal, zeroSlackInstant}
+use Rattle.zsrm.specs.Record.{doneAt, standingAt, opening}
 
 abbrev pub unfinished : Standing → Bool
 unfinished NotArrived = false
@@ -25,27 +26,27 @@ alive r j = unfinished (standingAt r j)
 unfoldable pub jobWord : List ℕ → (ℕ → Bool) → ℕ
 jobWord jobs f = word 64 (λ j. ltb j (jobCount jobs) && f j)
 
-module _ (g : Given) where
-  -- some job of the list passes
-  unfoldable pub someJob : (ℕ → Bool) → Bool
-  someJob f = some (jobCount (g .jobs)) f
+-- some job of the list passes
+unfoldable pub someJob : List ℕ → (ℕ → Bool) → Bool
+someJob jobs f = some (jobCount jobs) f
 
+module _ (g : Given) where
   -- job i is strictly more critical than job j: criticalities alone are compared
   unfoldable pub moreCritical : ℕ → ℕ → Bool
-  moreCritical i j = ltb (jobCriticality g j) (jobCriticality g i)
+  moreCritical i j = ltb (jobCriticality (g .lists) j) (jobCriticality (g .lists) i)
 
   -- job i has strictly higher priority than job j: priorities alone are compared
   unfoldable pub higherPriority : ℕ → ℕ → Bool
-  higherPriority i j = ltb (jobPriority g j) (jobPriority g i)
+  higherPriority i j = ltb (jobPriority (g .lists) j) (jobPriority (g .lists) i)
 
   module _ (r : Record) where
     -- Past zero slack: alive, and arrival + Z ≤ t.
     unfoldable pub pastZeroSlack : ℕ → Bool
-    pastZeroSlack j = alive r j && leb (zeroSlackInstant g j) (r .tick)
+    pastZeroSlack j = alive r j && leb (zeroSlackInstant (g .lists) j) (r .tick)
 
     -- Suspended: alive, and some job past zero slack is strictly more critical.
     unfoldable pub suspended : ℕ → Bool
-    suspended j = alive r j && someJob (λ i. pastZeroSlack i && moreCritical i j)
+    suspended j = alive r j && someJob (g .lists .jobs) (λ i. pastZeroSlack i && moreCritical i j)
 
     -- Eligible: alive and not suspended.
     unfoldable pub eligible : ℕ → Bool
@@ -53,15 +54,15 @@ module _ (g : Given) where
 
     -- Candidate: eligible, with no eligible job of strictly higher priority.
     unfoldable pub candidate : ℕ → Bool
-    candidate j = eligible j && not (someJob (λ i. eligible i && higherPriority i j))
+    candidate j = eligible j && not (someJob (g .lists .jobs) (λ i. eligible i && higherPriority i j))
 
     -- Our run takes the lowest job number among the candidates; with no candidate the tick is idle.
     unfoldable pub choice : ℕ
-    choice = least (jobCount (g .jobs)) candidate idle
+    choice = least (jobCount (g .lists .jobs)) candidate idle
 
     -- Bit p of the ready word is set exactly when an eligible job of priority p exists.
     unfoldable pub readyAt : ℕ → Bool
-    readyAt p = someJob (λ j. eligible j && eqb (jobPriority g j) p)
+    readyAt p = someJob (g .lists .jobs) (λ j. eligible j && eqb (jobPriority (g .lists) j) p)
 
     unfoldable pub readyWord : ℕ
     readyWord = word 64 readyAt
@@ -78,19 +79,19 @@ module _ (g : Given) where
 
       -- If that equals c it is finished at t + 1.
       unfoldable pub finishes : ℕ → Bool
-      finishes j = eqb e j && eqb (doneAfter j) (execution (g .jobs) j)
+      finishes j = eqb e j && eqb (doneAfter j) (execution (g .lists .jobs) j)
 
       -- SE only: over if past zero slack and its done at t, plus 1 if it runs in t, exceeds C.
       unfoldable pub over : ℕ → Bool
-      over j = isSE (g .mode) && pastZeroSlack j && ltb (jobNominal g j) (doneAfter j)
+      over j = isSE (g .mode) && pastZeroSlack j && ltb (jobNominal (g .lists) j) (doneAfter j)
 
       -- Every alive job that is strictly less critical than one that is over is then ended, with tick t.
       unfoldable pub ends : ℕ → Bool
-      ends j = alive r j && someJob (λ i. over i && moreCritical i j)
+      ends j = alive r j && someJob (g .lists .jobs) (λ i. over i && moreCritical i j)
 
       -- Bit j of the ended word is set exactly when job j is ended in this tick.
       unfoldable pub endedWord : ℕ
-      endedWord = jobWord (g .jobs) ends
+      endedWord = jobWord (g .lists .jobs) ends
 
       -- the standing after the tick of a job that was alive in it
       unfoldable pub goesOn : ℕ → Standing
@@ -98,7 +99,7 @@ module _ (g : Given) where
 
       -- A job that has not arrived opens at t + 1, if its arrival has come; finished and ended jobs stay so.
       unfoldable pub standingAfter : ℕ → Standing → Standing
-      standingAfter j NotArrived = opening (g .jobs) (suc (r .tick)) j
+      standingAfter j NotArrived = opening (g .lists .jobs) (suc (r .tick)) j
       standingAfter j Unfinished = goesOn j
       standingAfter j (Finished f) = Finished f
       standingAfter j (Ended t) = Ended t

@@ -4,19 +4,20 @@ use Prim.Native.Nat.{ℕ}
 use mathlib.Core.List.{List, [], _∷_, _++_, map}
 use lib.ListN.{replicate}
 use Rattle.bits.specs.Below.{listFrom}
-use Rattle.zsrm.specs.declared.tables.Mode.{Mode}
-use Rattle.zsrm.specs.declared.tables.Mode.the-variants.{S, SE}
+use Rattle.zsrm.specs.declared.mode.Mode.{Mode}
+use Rattle.zsrm.specs.declared.mode.Mode.the-variants.{S, SE}
 use Rattle.zsrm.specs.declared.record.Standing.{Standing}
 use Rattle.zsrm.specs.declared.record.Standing.the-variants.{NotArrived, Unfinished, Finished, Ended}
-use Rattle.zsrm.specs.declared.answers.Outcome.{Outcome}
-use Rattle.zsrm.specs.declared.answers.Outcome.the-variants.{Done}
+use Rattle.tables.specs.declared.outcome.Outcome.{Outcome}
+use Rattle.tables.specs.declared.outcome.Outcome.the-variants.{Done}
 use Rattle.zsrm.specs.declared.answers.Claim.{Claim}
 use Rattle.zsrm.specs.declared.answers.Claim.the-variants.{Legal, NotLegal}
 use Rattle.zsrm.specs.declared.answers.Verdict.{Verdict}
 use Rattle.zsrm.specs.declared.answers.Verdict.the-variants.{Met, Late, Open, Ended as EndedV}
-use Rattle.zsrm.specs.Tables.{Given, idle, jobCount}
+use Rattle.zsrm.specs.Given.{Given, given}
+use Rattle.tables.specs.Tables.{idle, jobCount}
 use Rattle.zsrm.specs.Record.{standingAt}
-use Rattle.zsrm.specs.Answers.{given, runAnswer, runSchedule, claimAnswer, verdictAnswer}
+use Rattle.zsrm.specs.Answers.{runAnswer, runSchedule, claimAnswer, verdictAnswer}
 
 -- of a run: its outcome, its entries, where each job stands at its end, with finishing instant or ending tick, and each job's verdict;
 -- the answer to the claim of those entries; and the answers to further claims
@@ -43,7 +44,7 @@ unfoldable pub computed : Case → Trace
 computed c =
     let g = c .setting in
     let h = c .horizon in
-    let n = jobCount (g .jobs) in
+    let n = jobCount (g .lists .jobs) in
     let lent : List ℕ = replicate h 0 in
     let ran = runAnswer g h lent in
     let es = runSchedule g h lent in

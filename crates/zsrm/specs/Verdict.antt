@@ -8,16 +8,15 @@ use lib.Dec.{leb}
 use Rattle.zsrm.specs.declared.record.Standing.{Standing}
 use Rattle.zsrm.specs.declared.record.Standing.the-variants.{NotArrived, Unfinished, Finished, Ended}
 use Rattle.zsrm.specs.declared.record.Record.{Record}
-use Rattle.zsrm.specs.declared.answers.Claim.{Claim}
-use Rattle.zsrm.specs.declared.answers.Claim.the-variants as claims
 use Rattle.zsrm.specs.declared.answers.Verdict.{Verdict}
-use Rattle.zsrm.specs.declared.answers.Verdict.the-variants as verdicts
 use Rattle.zsrm.specs.declared.answers.Witness.{Witness}
-use Rattle.zsrm.specs.declared.answers.Witness.the-variants as witnesses
-use Rattle.zsrm.specs.Tables.{Given, arrival, deadlineInstant}
+use Rattle.zsrm.specs.Given.{Given}
+use Rattle.tables.specs.Tables.{Lists, arrival, deadlineInstant}
 use Rattle.zsrm.specs.Record.{standingAt}
 use Rattle.zsrm.specs.Run.{replayed}
-use Rattle.zsrm.specs.Legal.{claim}
+use Rattle.zsrm.specs.Legal.{isLegal, legalLength}
+use Rattle.zsrm.specs.declared.answers.Verdict.the-variants as verdicts
+use Rattle.zsrm.specs.declared.answers.Witness.the-variants as witnesses
 
 -- Ended; met if finished at f ≤ arrival + D; late if finished later, or alive with H ≥ arrival + D; open otherwise. due is arrival + D.
 abbrev pub judged : ℕ → ℕ → Standing → Verdict
@@ -27,8 +26,8 @@ judged due h Unfinished = cond (leb due h) verdicts.Late verdicts.Open
 judged due h NotArrived = verdicts.Open
 
 -- The verdict on job j from a record, H being its own tick.
-unfoldable pub verdict : Given → Record → ℕ → Verdict
-verdict g r j = judged (deadlineInstant g j) (r .tick) (standingAt r j)
+unfoldable pub verdict : Lists → Record → ℕ → Verdict
+verdict l r j = judged (deadlineInstant l j) (r .tick) (standingAt r j)
 
 -- Missed means late or ended.
 abbrev pub missed : Verdict → Bool
@@ -38,12 +37,11 @@ missed verdicts.Late = true
 missed verdicts.Ended = true
 missed verdicts.Open = false
 
--- The answers to a witness, in order: not legal at t; not missed; accepted.
-abbrev pub answered : Claim → Bool → Witness
-answered (claims.Refused number place) isMissed = witnesses.Refused number place
-answered (claims.NotLegal t) isMissed = witnesses.NotLegal t
-answered claims.Legal false = witnesses.NotMissed
-answered claims.Legal true = witnesses.Accepted
+-- The answers to a witness, in order: not legal at t; not missed; accepted. n is the length of the schedule's legal beginning.
+abbrev pub answered : Bool → ℕ → Bool → Witness
+answered false n isMissed = witnesses.NotLegal n
+answered true n false = witnesses.NotMissed
+answered true n true = witnesses.Accepted
 
 -- A part of a schedule: the tick at which it begins, and its entries.
 pub record Part : Type 0 where
@@ -61,10 +59,9 @@ partTo a schedule (Finished f) = record { from = a; entries = take (f - a) (drop
 partTo a schedule (Ended e) = emptyPart
 
 -- An illegal claim gives the empty part too.
-abbrev pub shownBy : Claim → Part → Part
-shownBy (claims.Refused number place) part = emptyPart
-shownBy (claims.NotLegal t) part = emptyPart
-shownBy claims.Legal part = part
+abbrev pub shownBy : Bool → Part → Part
+shownBy false part = emptyPart
+shownBy true part = part
 
 -- As a part of the caller's own schedule: a reference that holds the part's entries and points into the schedule, past the entries before
 -- the part, each of which is two bytes wide. A reference's place is a block of memory and a byte in it.
@@ -76,7 +73,7 @@ pub record Shows (schedule : ℕ × ℕ) (p : Part) (place : ℕ × ℕ) (entrie
 module _ (g : Given) (schedule : List ℕ) where
   -- A witness is a claim with a job number.
   unfoldable pub witness : ℕ → Witness
-  witness j = answered (claim g schedule) (missed (verdict g (replayed g schedule) j))
+  witness j = answered (isLegal g schedule) (legalLength g schedule) (missed (verdict (g .lists) (replayed g schedule) j))
 
   unfoldable pub part : ℕ → Part
-  part j = shownBy (claim g schedule) (partTo (arrival (g .jobs) j) schedule (standingAt (replayed g schedule) j))
+  part j = shownBy (isLegal g schedule) (partTo (arrival (g .lists .jobs) j) schedule (standingAt (replayed g schedule) j))

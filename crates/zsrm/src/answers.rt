@@ -1,16 +1,33 @@
 // What the entry points answer. A refusal is its number and its place, as document 01 numbers them.
+ghost use mathlib.Core.Path.{_≡_};
+ghost use Rattle.zsrm.specs.Answers.{ran};
 use crate::record::Record;
-
-// What the checks find, and what a run or a step came to.
-pub enum Outcome {
-    Done,
-    Refused(u32, u32),
-}
+use crate::record::blank;
+use tables::Outcome;
 
 // The answer of a fresh record and of a run.
 pub struct Ran {
     pub outcome: Outcome,
     pub record: Record,
+}
+
+// A refused answer's record is blank.
+pub(crate) fn or_blank(outcome: Outcome, made: Record) -> Ran
+    ensures { λ r. ⌜ r ≡ ran outcome made ⌝ }
+{
+    match outcome {
+        Outcome::Done => Ran {
+            outcome: Outcome::Done,
+            record: made,
+        },
+        Outcome::Refused(number, place) => {
+            let record = blank();
+            Ran {
+                outcome: Outcome::Refused(number, place),
+                record,
+            }
+        }
+    }
 }
 
 // The answer of a step: the record advanced by one tick, and what the tick did.

@@ -1,26 +1,30 @@
-// The calls from C: numbers and byte slices in, one number out. The schedule's bytes are written and read tick by tick.
+// The calls from C: numbers and byte slices in, one number out. The lists' bytes are read and checked once, the schedule's are written
+// and read tick by tick.
 ghost use mathlib.Core.Path.{_≡_};
-ghost use mathlib.Core.List.{List};
-ghost use Prim.Native.Nat.{ℕ, _+_, _*_, _/_, _%_, _≤_};
-ghost use lib.ListN.{length};
-ghost use Rattle.zsrm.specs.declared.answers.Outcome.{Outcome};
-ghost use Rattle.zsrm.specs.Refusals.{before, check9, check10, checkTasks, checkJobs, checkLists};
+ghost use Prim.Native.Nat.{_+_, _*_, _/_, _%_, _≤_};
+ghost use lib.ListN.{length, take};
+ghost use Rattle.tables.specs.declared.outcome.Outcome.{Outcome};
+ghost use Rattle.tables.specs.Refusals.{before, check9, check10, checkLists};
 ghost use Rattle.zsrm.specs.Run.{runEntries};
 ghost use Rattle.zsrm.specs.Legal.{claim};
-ghost use Rattle.zsrm.specs.Answers.{given};
-ghost use Rattle.zsrm.specs.Bytes.{numbers4, numbers2, bytes2, modeOf, uneven, checkBytes, packedClaim, runResult, runBytes, claimResult};
-use crate::answers::Outcome;
+ghost use Rattle.zsrm.specs.Given.{given};
+ghost use Rattle.zsrm.specs.Bytes.{numbers2, bytes2, modeOf, uneven, packedClaim, runResult, runBytes, claimResult};
+ghost use Rattle.zsrm.specs.Code.Called.{checkCount, checkNumbers, called};
+ghost use Rattle.tables.specs.Tables.{lists};
 use crate::bytes::decode;
 use crate::bytes::number2;
 use crate::bytes::put2;
 use crate::claims::try_entry;
+use crate::mode::Mode;
 use crate::record::fresh_record;
-use crate::refusals::before;
-use crate::refusals::check_jobs;
-use crate::refusals::check_tasks;
-use crate::refusals::check9;
-use crate::refusals::refuse;
-use crate::tables::Mode;
+use tables::IDLE;
+use tables::Outcome;
+use tables::before;
+use tables::check_jobs;
+use tables::check_tasks;
+use tables::check9;
+use tables::check10;
+use tables::refuse;
 
 // The mode of its number; the checks refuse all but 0 and 1.
 fn mode_of(number: u32) -> Mode
@@ -29,55 +33,76 @@ fn mode_of(number: u32) -> Mode
     if number == 0 { Mode::S } else { Mode::SE }
 }
 
-// 2 for a byte count that is no whole list or too long, then the tasks.
-fn check_task_bytes(tasks: &[u8]) -> Outcome
-    ensures { λ r. ⌜ r ≡ before (uneven (now (tasks .entry)) 4 2) (checkTasks (numbers4 (now (tasks .entry)))) ⌝ }
+// A byte count that makes no whole number, or more numbers than either list may have, meets that list's length refusal.
+fn check_count(count: usize, number: u32) -> Outcome
+    ensures { λ r. ⌜ r ≡ checkCount count number ⌝ }
 {
-    let len = tasks.len();
-    if (len % 4 != 0) | (448 < len) {
-        return Outcome::Refused(2, 0);
-    }
-    let numbers = decode(tasks);
-    let n = len / 4;
-    check_tasks(&numbers[..n])
+    refuse((count % 4 != 0) | (768 < count), number, 0)
 }
 
-// 5 for a byte count that is no whole list or too long, then the jobs.
-fn check_job_bytes(tasks: &[u8], jobs: &[u8]) -> Outcome
-    requires { ⌜ length (now tasks) ≤ 448 ⌝ }
-    ensures { λ r. ⌜ r ≡ before (uneven (now (jobs .entry)) 4 5) (checkJobs (numbers4 (now (tasks .entry))) (numbers4 (now (jobs .entry)))) ⌝ }
+// How many of a list's numbers are decoded, by the count of its bytes: all, where it is not too long.
+fn spelled(count: usize) -> usize
+    ensures all { λ r. ⌜ (count ≤ 768 → r ≡ count / 4) ⌝ }
+    ensures most { λ r. ⌜ r ≤ 192 ⌝ }
 {
-    let len = jobs.len();
-    if (len % 4 != 0) | (768 < len) {
-        return Outcome::Refused(5, 0);
-    }
+    if count < 768 { count / 4 } else { 192 }
+}
+
+// 9, then 10 for an odd byte count or another number of entries.
+fn check_ticks(horizon: u32, count: usize) -> Outcome
+    ensures { λ r. ⌜ r ≡ before (check9 horizon) (before (uneven count 2 10) (check10 (count / 2) horizon)) ⌝ }
+{
+    let odd = refuse(count % 2 != 0, 10, 0);
+    before(check9(horizon), before(odd, check10(count / 2, horizon)))
+}
+
+// All checks of the calls from C, in their order: n bytes spell the tasks, m the jobs, and count the schedule.
+fn check_bytes(
+    mode: u32,
+    n: usize,
+    tasks: &[u32],
+    m: usize,
+    jobs: &[u32],
+    horizon: u32,
+    count: usize,
+) -> Outcome
+    ensures { λ r. ⌜ r ≡ checkNumbers mode n (now (tasks .entry)) m (now (jobs .entry)) horizon count ⌝ }
+{
+    let two = before(check_count(n, 2), check_tasks(tasks));
+    let five = before(check_count(m, 5), check_jobs(tasks, jobs));
+    let rest = before(two, before(five, check_ticks(horizon, count)));
+    before(refuse(1 < mode, 1, 0), rest)
+}
+
+// A call from C: what its checks find, its mode, and the numbers of its lists.
+struct Called {
+    outcome: Outcome,
+    mode: Mode,
+    tasks: [u32; 192],
+    jobs: [u32; 192],
+}
+
+// What a call is given, read once and checked.
+fn check_call(mode: u32, tasks: &[u8], jobs: &[u8], horizon: u32, count: usize) -> Called
+    ensures { λ r. ⌜ r ≡ called mode (now (tasks .entry)) (now (jobs .entry)) horizon count ⌝ }
+{
     let table = decode(tasks);
     let list = decode(jobs);
-    let n = tasks.len() / 4;
-    let m = len / 4;
-    check_jobs(&table[..n], &list[..m])
-}
-
-// 9, then 10 for an odd byte count or another number of entries. Of the schedule its length decides.
-fn check_schedule_bytes(horizon: u32, len: usize) -> Outcome
-    ensures { λ r. ⌜ ((s : List ℕ) → length s ≡ len → r ≡ before (check9 horizon) (before (uneven s 2 10) (check10 (numbers2 s) horizon))) ⌝ }
-{
-    let odd = refuse(!(len % 2 == 0), 10, 0);
-    let other = refuse(!(len / 2 == (horizon as usize)), 10, 0);
-    before(check9(horizon), before(odd, other))
-}
-
-// All checks of the calls from C, in their order.
-fn check_bytes(mode: u32, tasks: &[u8], jobs: &[u8], horizon: u32, len: usize) -> Outcome
-    ensures { λ r. ⌜ ((s : List ℕ) → length s ≡ len → r ≡ checkBytes mode (now (tasks .entry)) (now (jobs .entry)) horizon s) ⌝ }
-{
-    let head = before(refuse(1 < mode, 1, 0), check_task_bytes(tasks));
-    match head {
-        Outcome::Done => before(
-            check_job_bytes(tasks, jobs),
-            check_schedule_bytes(horizon, len),
+    let n = spelled(tasks.len());
+    let m = spelled(jobs.len());
+    Called {
+        outcome: check_bytes(
+            mode,
+            tasks.len(),
+            &table[..n],
+            jobs.len(),
+            &list[..m],
+            horizon,
+            count,
         ),
-        Outcome::Refused(number, place) => Outcome::Refused(number, place),
+        mode: mode_of(mode),
+        tasks: table,
+        jobs: list,
     }
 }
 
@@ -91,7 +116,7 @@ fn packed(number: u32, place: u32) -> u32
 
 // Our run from the fresh record, its entries written as bytes.
 fn run_bytes(mode: Mode, tasks: &[u32], jobs: &[u32], schedule: &mut [u8])
-    requires { ⌜ checkLists (now tasks) (now jobs) ≡ Outcome.Done ⌝ }
+    requires { ⌜ checkLists (lists (now tasks) (now jobs)) ≡ Outcome.Done ⌝ }
     requires { ⌜ (length (now schedule) ≤ 32768) × (length (now schedule) % 2 ≡ 0) ⌝ }
     ensures { λ _. ⌜ now (schedule .exit) ≡ bytes2 (runEntries (given mode (now (tasks .entry)) (now (jobs .entry))) (length (now (schedule .entry)) / 2)) ⌝ }
 {
@@ -107,18 +132,35 @@ fn run_bytes(mode: Mode, tasks: &[u32], jobs: &[u32], schedule: &mut [u8])
     }
 }
 
+// Our run on the first n and m of the decoded numbers, which are lent and not copied.
+fn run_decoded<'a>(
+    mode: Mode,
+    n: usize,
+    tasks: &'a [u32],
+    m: usize,
+    jobs: &'a [u32],
+    schedule: &mut [u8],
+)
+    requires { ⌜ (n ≤ length (now tasks)) × (m ≤ length (now jobs)) ⌝ }
+    requires { ⌜ checkLists (lists (take n (now tasks)) (take m (now jobs))) ≡ Outcome.Done ⌝ }
+    requires { ⌜ (length (now schedule) ≤ 32768) × (length (now schedule) % 2 ≡ 0) ⌝ }
+    ensures { λ _. ⌜ now (schedule .exit) ≡ bytes2 (runEntries (given mode (take n (now (tasks .entry))) (take m (now (jobs .entry)))) (length (now (schedule .entry)) / 2)) ⌝ }
+{
+    run_bytes(mode, &tasks[..n], &jobs[..m], schedule);
+}
+
 // What a claim of bytes comes to, as one number.
 fn claim_bytes(mode: Mode, tasks: &[u32], jobs: &[u32], schedule: &[u8]) -> u32
-    requires { ⌜ checkLists (now tasks) (now jobs) ≡ Outcome.Done ⌝ }
+    requires { ⌜ checkLists (lists (now tasks) (now jobs)) ≡ Outcome.Done ⌝ }
     requires { ⌜ length (now schedule) ≤ 32768 ⌝ }
     ensures { λ r. ⌜ r ≡ packedClaim (claim (given mode (now (tasks .entry)) (now (jobs .entry))) (numbers2 (now (schedule .entry)))) ⌝ }
 {
     let ticks = schedule.len() / 2;
     let mut rec = fresh_record(jobs);
-    let mut last: u16 = 65535;
+    let mut last: u16 = IDLE;
     let mut t: usize = 0;
     while t < ticks {
-        let entry = number2(schedule, t as u32);
+        let entry = number2(schedule, t);
         let tried = try_entry(rec, mode, last, entry, tasks, jobs);
         let next = tried.record;
         if tried.legal {
@@ -130,6 +172,23 @@ fn claim_bytes(mode: Mode, tasks: &[u32], jobs: &[u32], schedule: &[u8]) -> u32
         }
     }
     0
+}
+
+// A claim on the first n and m of the decoded numbers.
+fn claim_decoded<'a>(
+    mode: Mode,
+    n: usize,
+    tasks: &'a [u32],
+    m: usize,
+    jobs: &'a [u32],
+    schedule: &[u8],
+) -> u32
+    requires { ⌜ (n ≤ length (now tasks)) × (m ≤ length (now jobs)) ⌝ }
+    requires { ⌜ checkLists (lists (take n (now tasks)) (take m (now jobs))) ≡ Outcome.Done ⌝ }
+    requires { ⌜ length (now schedule) ≤ 32768 ⌝ }
+    ensures { λ r. ⌜ r ≡ packedClaim (claim (given mode (take n (now (tasks .entry))) (take m (now (jobs .entry)))) (numbers2 (now (schedule .entry)))) ⌝ }
+{
+    claim_bytes(mode, &tasks[..n], &jobs[..m], schedule)
 }
 
 // Our run, from C: 0 for done, or a refusal's number plus 256 times its place, the schedule's bytes then being as they were.
@@ -144,14 +203,14 @@ pub extern "C" fn zsrm_run(
     ensures answers { λ r. ⌜ r ≡ runResult mode (now (tasks .entry)) (now (jobs .entry)) horizon (now (schedule .entry)) ⌝ }
     ensures writes { λ r. ⌜ now (schedule .exit) ≡ runBytes mode (now (tasks .entry)) (now (jobs .entry)) horizon (now (schedule .entry)) ⌝ }
 {
-    let checked = check_bytes(mode, tasks, jobs, horizon, schedule.len());
-    match checked {
+    let read = check_call(mode, tasks, jobs, horizon, schedule.len());
+    let outcome = read.outcome;
+    match outcome {
         Outcome::Done => {
-            let table = decode(tasks);
-            let list = decode(jobs);
+            let scheduler = read.mode;
             let n = tasks.len() / 4;
             let m = jobs.len() / 4;
-            run_bytes(mode_of(mode), &table[..n], &list[..m], schedule);
+            run_decoded(scheduler, n, &read.tasks, m, &read.jobs, schedule);
             0
         }
         Outcome::Refused(number, place) => packed(number, place),
@@ -169,14 +228,14 @@ pub extern "C" fn zsrm_claim(
 ) -> u32
     ensures { λ r. ⌜ r ≡ claimResult mode (now (tasks .entry)) (now (jobs .entry)) horizon (now (schedule .entry)) ⌝ }
 {
-    let checked = check_bytes(mode, tasks, jobs, horizon, schedule.len());
-    match checked {
+    let read = check_call(mode, tasks, jobs, horizon, schedule.len());
+    let outcome = read.outcome;
+    match outcome {
         Outcome::Done => {
-            let table = decode(tasks);
-            let list = decode(jobs);
+            let scheduler = read.mode;
             let n = tasks.len() / 4;
             let m = jobs.len() / 4;
-            claim_bytes(mode_of(mode), &table[..n], &list[..m], schedule)
+            claim_decoded(scheduler, n, &read.tasks, m, &read.jobs, schedule)
         }
         Outcome::Refused(number, place) => packed(number, place),
     }

@@ -3,31 +3,32 @@ ghost use mathlib.Core.Path.{_≡_};
 ghost use mathlib.Core.Bool.{true};
 ghost use Prim.Native.Nat.{_≤_, _<_};
 ghost use lib.ListN.{length};
-ghost use Rattle.zsrm.specs.declared.answers.Outcome.{Outcome};
-ghost use Rattle.zsrm.specs.Tables.{jobCount};
-ghost use Rattle.zsrm.specs.Code.Fields.{lists};
-ghost use Rattle.zsrm.specs.Refusals.{checkLists};
+ghost use Rattle.tables.specs.declared.outcome.Outcome.{Outcome};
+ghost use Rattle.tables.specs.Tables.{jobCount, lists};
+ghost use Rattle.tables.specs.Refusals.{checkLists};
 ghost use Rattle.zsrm.specs.Record.{consistent};
 ghost use Rattle.zsrm.specs.Code.View.{view};
 ghost use Rattle.zsrm.specs.Legal.{finishedAt, schedulingInstant, legalEntry};
-ghost use Rattle.zsrm.specs.Code.Claims.{turnsAt, mayRun, tried, ReplayedAs};
-ghost use Rattle.zsrm.specs.Answers.{given, claimAnswer};
+ghost use Rattle.zsrm.specs.Code.Claims.{tried, ReplayedAs, instantAt, topOrIdle};
+ghost use Rattle.zsrm.specs.Given.{given};
+ghost use Rattle.zsrm.specs.Answers.{claimAnswer};
 use crate::answers::Claim;
-use crate::answers::Outcome;
+use crate::mode::Mode;
+use crate::mode::is_se;
 use crate::record::Place;
 use crate::record::Record;
 use crate::record::Standing;
 use crate::record::fresh_record;
-use crate::record::is_se;
 use crate::runs::check_schedule;
-use crate::tables::Mode;
-use crate::tables::Priority;
-use crate::tables::job_at;
-use crate::tables::job_count;
-use crate::tables::nominal_of;
-use crate::tables::zero_slack_instant;
 use crate::tick::View;
 use crate::tick::has_priority;
+use tables::IDLE;
+use tables::Outcome;
+use tables::Priority;
+use tables::job_at;
+use tables::job_count;
+use tables::nominal_of;
+use tables::zero_slack_instant;
 
 // Whether the standing is finished, at the instant t.
 fn is_finished_at(t: u32, standing: Standing) -> bool
@@ -42,8 +43,16 @@ fn is_finished_at(t: u32, standing: Standing) -> bool
 }
 
 // Whether a job, at its place, makes tick t a scheduling instant.
-fn turns(se: bool, last: u16, t: u32, j: u32, place: Place, tasks: &[u32], jobs: &[u32]) -> bool
-    ensures { λ r. ⌜ r ≡ turnsAt (lists (now (tasks .entry)) (now (jobs .entry))) se last t j place ⌝ }
+fn is_instant_by(
+    se: bool,
+    last: u16,
+    t: u32,
+    j: u32,
+    place: Place,
+    tasks: &[u32],
+    jobs: &[u32],
+) -> bool
+    ensures { λ r. ⌜ r ≡ instantAt (lists (now (tasks .entry)) (now (jobs .entry))) se last t j place ⌝ }
 {
     let job = job_at(jobs, j);
     let standing = place.standing;
@@ -65,7 +74,7 @@ fn is_instant(rec: Record, mode: Mode, last: u16, tasks: &[u32], jobs: &[u32]) -
     let mut j: usize = 0;
     while j < n {
         let place = rec.places[j];
-        if turns(se, last, t, j as u32, place, tasks, jobs) {
+        if is_instant_by(se, last, t, j as u32, place, tasks, jobs) {
             return true;
         }
         j += 1;
@@ -74,13 +83,13 @@ fn is_instant(rec: Record, mode: Mode, last: u16, tasks: &[u32], jobs: &[u32]) -
 }
 
 // Whether the entry is a candidate, or idle with no candidate.
-fn may_run(seen: View, entry: u16, tasks: &[u32], jobs: &[u32]) -> bool
-    ensures { λ r. ⌜ r ≡ mayRun (lists (now (tasks .entry)) (now (jobs .entry))) seen entry ⌝ }
+fn is_top_or_idle(seen: View, entry: u16, tasks: &[u32], jobs: &[u32]) -> bool
+    ensures { λ r. ⌜ r ≡ topOrIdle (lists (now (tasks .entry)) (now (jobs .entry))) seen entry ⌝ }
 {
     let top = Priority(bits::highest(seen.ready));
     let listed = (entry as usize) < job_count(jobs);
     (listed & has_priority(seen.eligible, top, entry as u32, tasks, jobs))
-        | ((entry == 65535) & (seen.ready == 0))
+        | ((entry == IDLE) & (seen.ready == 0))
 }
 
 // Whether the entry is legal in the record's tick, given the entry before; what is seen is the view of the record.
@@ -93,11 +102,11 @@ fn is_legal(
     tasks: &[u32],
     jobs: &[u32],
 ) -> bool
-    requires { ⌜ checkLists (now tasks) (now jobs) ≡ Outcome.Done ⌝ }
+    requires { ⌜ checkLists (lists (now tasks) (now jobs)) ≡ Outcome.Done ⌝ }
     requires { ⌜ seen ≡ view (lists (now tasks) (now jobs)) rec ⌝ }
     ensures { λ r. ⌜ r ≡ legalEntry (given mode (now (tasks .entry)) (now (jobs .entry))) rec last entry ⌝ }
 {
-    if may_run(seen, entry, tasks, jobs) {
+    if is_top_or_idle(seen, entry, tasks, jobs) {
         if (rec.tick == 0) | (entry == last) {
             true
         } else {
@@ -123,7 +132,7 @@ pub(crate) fn try_entry(
     tasks: &[u32],
     jobs: &[u32],
 ) -> Tried
-    requires { ⌜ checkLists (now tasks) (now jobs) ≡ Outcome.Done ⌝ }
+    requires { ⌜ checkLists (lists (now tasks) (now jobs)) ≡ Outcome.Done ⌝ }
     requires { ⌜ (consistent (given mode (now tasks) (now jobs)) rec ≡ true) × (rec .tick < 16384) ⌝ }
     ensures { λ r. ⌜ r ≡ tried (given mode (now (tasks .entry)) (now (jobs .entry))) rec last entry ⌝ }
 {
@@ -143,19 +152,19 @@ pub(crate) fn try_entry(
     }
 }
 
-// What replaying a claim finds, and the record at the claim's end where it is legal.
+// How many entries of a schedule are legal, up to the first that is not, and the record there.
 pub(crate) struct Replayed {
-    pub claim: Claim,
+    pub ticks: u32,
     pub record: Record,
 }
 
 // A whole schedule replayed, up to the least tick that is not legal.
 pub(crate) fn replay(mode: Mode, tasks: &[u32], jobs: &[u32], schedule: &[u16]) -> Replayed
-    requires { ⌜ (checkLists (now tasks) (now jobs) ≡ Outcome.Done) × (length (now schedule) ≤ 16384) ⌝ }
+    requires { ⌜ (checkLists (lists (now tasks) (now jobs)) ≡ Outcome.Done) × (length (now schedule) ≤ 16384) ⌝ }
     ensures { λ r. ⌜ ReplayedAs (given mode (now (tasks .entry)) (now (jobs .entry))) (now (schedule .entry)) r ⌝ }
 {
     let mut rec = fresh_record(jobs);
-    let mut last: u16 = 65535;
+    let mut last: u16 = IDLE;
     let mut t: usize = 0;
     while t < schedule.len() {
         let entry = schedule[t];
@@ -167,13 +176,13 @@ pub(crate) fn replay(mode: Mode, tasks: &[u32], jobs: &[u32], schedule: &[u16]) 
             t += 1;
         } else {
             return Replayed {
-                claim: Claim::NotLegal(t as u32),
+                ticks: t as u32,
                 record: next,
             };
         }
     }
     Replayed {
-        claim: Claim::Legal,
+        ticks: t as u32,
         record: rec,
     }
 }
@@ -186,7 +195,12 @@ pub fn claim(mode: Mode, tasks: &[u32], jobs: &[u32], horizon: u32, schedule: &[
     match checked {
         Outcome::Done => {
             let replayed = replay(mode, tasks, jobs, schedule);
-            replayed.claim
+            let ticks = replayed.ticks;
+            if (ticks as usize) == schedule.len() {
+                Claim::Legal
+            } else {
+                Claim::NotLegal(ticks)
+            }
         }
         Outcome::Refused(number, place) => Claim::Refused(number, place),
     }

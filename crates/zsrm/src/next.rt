@@ -1,17 +1,17 @@
 // Document 01, "One tick": what a tick does to the record.
 ghost use mathlib.Core.Path.{_≡_};
-ghost use mathlib.Core.Bool.{true, cond};
+ghost use mathlib.Core.Bool.{cond};
 ghost use Prim.Native.Nat.{ℕ, _+_, _≤_, _<_};
-ghost use Rattle.zsrm.specs.Tables.{jobCount};
+ghost use Rattle.tables.specs.Tables.{jobCount};
 ghost use Rattle.zsrm.specs.Record.{doneAt};
 ghost use Rattle.zsrm.specs.Code.Next.{workedOn, nextStanding, nextPlace, nextRecord};
 use crate::record::Place;
 use crate::record::Record;
 use crate::record::Standing;
 use crate::record::opening;
-use crate::tables::Job;
-use crate::tables::job_at;
-use crate::tables::job_count;
+use tables::Job;
+use tables::job_at;
+use tables::job_count;
 
 // A job that was alive in tick t, after it.
 fn worked_on(t: u32, finishes: bool, ended: bool) -> Standing
@@ -49,12 +49,11 @@ fn next_standing(
     }
 }
 
-// The ticks done, with one more where the job ran, as they go back into the record.
-fn done_after(done: u32, ran: bool) -> u32
-    requires { ⌜ done ≤ 16384 ⌝ }
+// The ticks done, with one more where the job ran; in 64 bits, as a record may hold any number.
+pub(crate) fn done_after(done: u32, ran: bool) -> u64
     ensures { λ r. ⌜ r ≡ done + cond ran 1 0 ⌝ }
 {
-    if ran { done + 1 } else { done }
+    if ran { (done as u64) + 1 } else { done as u64 }
 }
 
 // A job's place after tick t, in which it ran or did not, and was ended or was not.
@@ -63,7 +62,7 @@ fn next_place(place: Place, t: u32, ran: bool, ended: bool, job: Job) -> Place
     ensures { λ r. ⌜ r ≡ nextPlace t ran ended (job .arrival) (job .execution) place ⌝ }
 {
     let standing = place.standing;
-    let done = done_after(place.done, ran);
+    let done = done_after(place.done, ran) as u32;
     let next = next_standing(t, ran, ended, job.arrival, job.execution, done, standing);
     Place {
         done,

@@ -1,12 +1,15 @@
 // Document 01, "The record": the tick, and for each of 64 places the ticks done and one standing.
 ghost use mathlib.Core.Path.{_≡_};
-ghost use Rattle.zsrm.specs.Tables.{arrival, execution};
-ghost use Rattle.zsrm.specs.Record.{arrived, blank, freshPlace, fresh, isSE, soundPlace, consistent};
+ghost use Rattle.tables.specs.Tables.{arrival, execution};
+ghost use Rattle.zsrm.specs.Record.{arrived, blank, freshPlace, fresh, soundPlace, consistent, check11, check12};
+ghost use Rattle.zsrm.specs.Given.{isSE, given};
 ghost use Rattle.zsrm.specs.Code.Next.{openingOf};
-ghost use Rattle.zsrm.specs.Answers.{given};
-use crate::tables::Mode;
-use crate::tables::job_at;
-use crate::tables::job_count;
+use crate::mode::Mode;
+use crate::mode::is_se;
+use tables::Outcome;
+use tables::job_at;
+use tables::job_count;
+use tables::refuse;
 
 pub enum Standing {
     NotArrived,
@@ -38,16 +41,6 @@ pub(crate) fn blank() -> Record
     Record {
         tick: 0,
         places: [empty; 64],
-    }
-}
-
-// Whether the mode is SE.
-pub(crate) fn is_se(mode: Mode) -> bool
-    ensures { λ r. ⌜ r ≡ isSE mode ⌝ }
-{
-    match mode {
-        Mode::S => false,
-        Mode::SE => true,
     }
 }
 
@@ -147,4 +140,18 @@ pub(crate) fn fresh_record(jobs: &[u32]) -> Record
         j += 1;
     }
     out
+}
+
+// 11: the record is not consistent with the jobs.
+pub(crate) fn check11(consistent: bool) -> Outcome
+    ensures { λ r. ⌜ r ≡ check11 consistent ⌝ }
+{
+    refuse(!consistent, 11, 0)
+}
+
+// 12: a step is asked at tick 16,384.
+pub(crate) fn check12(tick: u32) -> Outcome
+    ensures { λ r. ⌜ r ≡ check12 tick ⌝ }
+{
+    refuse(tick == 16384, 12, 0)
 }

@@ -1,26 +1,27 @@
 // Runs: the tick repeated, its entries written into the caller's list.
 ghost use mathlib.Core.Path.{_≡_};
 ghost use mathlib.Core.Bool.{true};
-ghost use mathlib.Core.List.{List};
-ghost use Prim.Native.Nat.{ℕ, _+_, _≤_};
+ghost use Prim.Native.Nat.{_+_, _≤_};
 ghost use lib.ListN.{length};
-ghost use Rattle.zsrm.specs.declared.answers.Outcome.{Outcome};
-ghost use Rattle.zsrm.specs.declared.tables.Mode.{Mode};
-ghost use Rattle.zsrm.specs.Refusals.{checkLists};
+ghost use Rattle.tables.specs.declared.outcome.Outcome.{Outcome};
+ghost use Rattle.tables.specs.Refusals.{checkLists};
 ghost use Rattle.zsrm.specs.Record.{consistent};
-ghost use Rattle.zsrm.specs.Run.{entries, final};
-ghost use Rattle.zsrm.specs.Answers.{given, checkSchedule, runAnswer, runSchedule};
-use crate::answers::Outcome;
+ghost use Rattle.zsrm.specs.Run.{entriesBy, finalBy};
+ghost use Rattle.zsrm.specs.Given.{given};
+ghost use Rattle.zsrm.specs.Answers.{checkSchedule, runAnswer, runSchedule};
+ghost use Rattle.tables.specs.Tables.{lists};
+ghost use Rattle.zsrm.specs.Tick.{choice};
 use crate::answers::Ran;
+use crate::answers::or_blank;
+use crate::mode::Mode;
 use crate::record::Record;
 use crate::record::blank;
 use crate::record::fresh_record;
-use crate::refusals::before;
-use crate::refusals::check_lists;
-use crate::refusals::check9;
-use crate::refusals::refuse;
-use crate::step::ran;
-use crate::tables::Mode;
+use tables::Outcome;
+use tables::before;
+use tables::check_lists;
+use tables::check9;
+use tables::check10;
 
 // A run from any consistent record for as many ticks as the list has entries.
 pub(crate) fn run_from(
@@ -30,10 +31,10 @@ pub(crate) fn run_from(
     jobs: &[u32],
     schedule: &mut [u16],
 ) -> Record
-    requires { ⌜ checkLists (now tasks) (now jobs) ≡ Outcome.Done ⌝ }
+    requires { ⌜ checkLists (lists (now tasks) (now jobs)) ≡ Outcome.Done ⌝ }
     requires { ⌜ (consistent (given mode (now tasks) (now jobs)) start ≡ true) × (start .tick + length (now schedule) ≤ 16384) ⌝ }
-    ensures ends { λ r. ⌜ r ≡ final (given mode (now (tasks .entry)) (now (jobs .entry))) start (length (now (schedule .entry))) ⌝ }
-    ensures writes { λ r. ⌜ now (schedule .exit) ≡ entries (given mode (now (tasks .entry)) (now (jobs .entry))) start (length (now (schedule .entry))) ⌝ }
+    ensures ends { λ r. ⌜ r ≡ finalBy (given mode (now (tasks .entry)) (now (jobs .entry))) (choice (given mode (now (tasks .entry)) (now (jobs .entry)))) start (length (now (schedule .entry))) ⌝ }
+    ensures writes { λ r. ⌜ now (schedule .exit) ≡ entriesBy (given mode (now (tasks .entry)) (now (jobs .entry))) (choice (given mode (now (tasks .entry)) (now (jobs .entry)))) start (length (now (schedule .entry))) ⌝ }
 {
     let mut rec = start;
     let mut t: usize = 0;
@@ -47,12 +48,14 @@ pub(crate) fn run_from(
     rec
 }
 
-// What a run and a claim check of their input: 2 to 8, 9, 10. Of the schedule its length decides, in either mode.
+// What a run and a claim check of their input: 2 to 8, 9, 10.
 pub(crate) fn check_schedule(tasks: &[u32], jobs: &[u32], horizon: u32, entries: usize) -> Outcome
-    ensures { λ r. ⌜ ((m : Mode) (s : List ℕ) → length s ≡ entries → r ≡ checkSchedule (given m (now (tasks .entry)) (now (jobs .entry))) horizon s) ⌝ }
+    ensures { λ r. ⌜ r ≡ checkSchedule (lists (now (tasks .entry)) (now (jobs .entry))) horizon entries ⌝ }
 {
-    let whole = refuse(!(entries == (horizon as usize)), 10, 0);
-    before(check_lists(tasks, jobs), before(check9(horizon), whole))
+    before(
+        check_lists(tasks, jobs),
+        before(check9(horizon), check10(entries, horizon)),
+    )
 }
 
 // Our run from the fresh record, its entries written into the caller's list; refusals 2 to 10, the list then keeping its entries.
@@ -64,8 +67,8 @@ pub fn run(mode: Mode, tasks: &[u32], jobs: &[u32], horizon: u32, schedule: &mut
     match checked {
         Outcome::Done => {
             let record = run_from(fresh_record(jobs), mode, tasks, jobs, schedule);
-            ran(Outcome::Done, record)
+            or_blank(Outcome::Done, record)
         }
-        Outcome::Refused(number, place) => ran(Outcome::Refused(number, place), blank()),
+        Outcome::Refused(number, place) => or_blank(Outcome::Refused(number, place), blank()),
     }
 }

@@ -2,31 +2,32 @@
 ghost use mathlib.Core.Path.{_≡_};
 ghost use mathlib.Core.Bool.{true};
 ghost use Prim.Native.Nat.{_≤_, _<_};
-ghost use Rattle.zsrm.specs.declared.answers.Outcome.{Outcome};
-ghost use Rattle.zsrm.specs.Tables.{jobCount};
-ghost use Rattle.zsrm.specs.Code.Fields.{lists};
-ghost use Rattle.zsrm.specs.Refusals.{checkLists};
+ghost use Rattle.tables.specs.declared.outcome.Outcome.{Outcome};
+ghost use Rattle.tables.specs.Tables.{jobCount, lists};
+ghost use Rattle.tables.specs.Refusals.{checkLists};
 ghost use Rattle.zsrm.specs.Record.{consistent};
 ghost use Rattle.zsrm.specs.Tick.{endedWord, advanced};
-ghost use Rattle.zsrm.specs.Legal.{dispatched};
+ghost use Rattle.zsrm.specs.Legal.{candidateOrIdle};
 ghost use Rattle.zsrm.specs.Code.View.{view, endedBy};
-ghost use Rattle.zsrm.specs.Answers.{given, ran, refusedStep, stepped, checkStep, freshAnswer, stepAnswer};
-use crate::answers::Outcome;
+ghost use Rattle.zsrm.specs.Given.{given};
+ghost use Rattle.zsrm.specs.Answers.{refusedStep, stepped, checkStep, freshAnswer, stepAnswer};
 use crate::answers::Ran;
 use crate::answers::Stepped;
+use crate::answers::or_blank;
+use crate::mode::Mode;
+use crate::mode::is_se;
 use crate::record::Record;
 use crate::record::blank;
+use crate::record::check11;
+use crate::record::check12;
 use crate::record::fresh_record;
 use crate::record::is_consistent;
-use crate::record::is_se;
-use crate::refusals::before;
-use crate::refusals::check_lists;
-use crate::refusals::check11;
-use crate::refusals::check12;
-use crate::tables::Mode;
 use crate::tick::View;
-use crate::tick::below_word;
+use crate::tick::less_critical_word;
 use crate::tick::overrun_word;
+use tables::Outcome;
+use tables::before;
+use tables::check_lists;
 
 // The jobs that are ended in the tick in which the entry runs.
 fn ended_word(seen: View, rec: Record, mode: Mode, entry: u16, tasks: &[u32], jobs: &[u32]) -> u64
@@ -35,28 +36,9 @@ fn ended_word(seen: View, rec: Record, mode: Mode, entry: u16, tasks: &[u32], jo
 {
     if is_se(mode) {
         let over = overrun_word(rec, seen.past, entry, tasks, jobs);
-        below_word(seen.alive, over, tasks, jobs)
+        less_critical_word(seen.alive, over, tasks, jobs)
     } else {
         0
-    }
-}
-
-// A refused answer's record is blank.
-pub(crate) fn ran(outcome: Outcome, made: Record) -> Ran
-    ensures { λ r. ⌜ r ≡ ran outcome made ⌝ }
-{
-    match outcome {
-        Outcome::Done => Ran {
-            outcome: Outcome::Done,
-            record: made,
-        },
-        Outcome::Refused(number, place) => {
-            let record = blank();
-            Ran {
-                outcome: Outcome::Refused(number, place),
-                record,
-            }
-        }
     }
 }
 
@@ -104,7 +86,7 @@ impl Record {
     ) -> Ticked
         requires { ⌜ (jobCount (now jobs) ≤ 64) × (self .tick < 16384) ⌝ }
         requires { ⌜ consistent (given mode (now tasks) (now jobs)) self ≡ true ⌝ }
-        requires { ⌜ dispatched (given mode (now tasks) (now jobs)) self entry ≡ true ⌝ }
+        requires { ⌜ candidateOrIdle (given mode (now tasks) (now jobs)) self entry ≡ true ⌝ }
         requires { ⌜ seen ≡ view (lists (now tasks) (now jobs)) self ⌝ }
         ensures advances { λ r. ⌜ r .«record» ≡ advanced (given mode (now (tasks .entry)) (now (jobs .entry))) self entry ⌝ }
         ensures ends { λ r. ⌜ r .ended ≡ endedWord (given mode (now (tasks .entry)) (now (jobs .entry))) self entry ⌝ }
@@ -116,7 +98,7 @@ impl Record {
 
     // One tick of our run, on lists that passed their checks, from a consistent record before tick 16,384.
     pub(crate) fn advance(self, mode: Mode, tasks: &[u32], jobs: &[u32]) -> Stepped
-        requires { ⌜ checkLists (now tasks) (now jobs) ≡ Outcome.Done ⌝ }
+        requires { ⌜ checkLists (lists (now tasks) (now jobs)) ≡ Outcome.Done ⌝ }
         requires { ⌜ (consistent (given mode (now tasks) (now jobs)) self ≡ true) × (self .tick < 16384) ⌝ }
         ensures { λ r. ⌜ r ≡ stepped (given mode (now (tasks .entry)) (now (jobs .entry))) self ⌝ }
     {
@@ -139,7 +121,7 @@ impl Record {
     pub fn fresh(self, tasks: &[u32], jobs: &[u32]) -> Ran
         ensures { λ r. ⌜ r ≡ freshAnswer (now (tasks .entry)) (now (jobs .entry)) ⌝ }
     {
-        ran(check_lists(tasks, jobs), fresh_record(jobs))
+        or_blank(check_lists(tasks, jobs), fresh_record(jobs))
     }
 
     // The record advanced by one tick, with what the tick did; refusals 2 to 8, 11, 12.

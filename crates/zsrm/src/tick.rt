@@ -1,20 +1,20 @@
 // Document 01, "One tick", with sets of jobs as words: bit j for job j.
 ghost use mathlib.Core.Path.{_≡_};
-ghost use mathlib.Core.Bool.{cond};
-ghost use Prim.Native.Nat.{_+_, _≤_};
-ghost use Rattle.zsrm.specs.Tables.{jobCount};
+ghost use Prim.Native.Nat.{_≤_};
+ghost use Rattle.tables.specs.Tables.{jobCount, lists};
 ghost use Rattle.zsrm.specs.Tick.{unfinished, alive, jobWord};
-ghost use Rattle.zsrm.specs.Code.Fields.{lists};
-ghost use Rattle.zsrm.specs.Code.View.{outranks, outranked, liesBelow, belowWord, isPast, pastWord, hasPriority, priorityWord, lowestOf, overruns, overrunWord, view, chosen};
+ghost use Rattle.zsrm.specs.Code.View.{isPast, pastWord, hasPriority, priorityWord, lowestOf, overruns, overrunWord, view, chosen, lessCriticalIn, lessCriticalWord, moreCriticalIn, someMoreCritical};
+use crate::next::done_after;
 use crate::record::Record;
 use crate::record::Standing;
-use crate::tables::Criticality;
-use crate::tables::Priority;
-use crate::tables::criticality_of;
-use crate::tables::job_count;
-use crate::tables::nominal_of;
-use crate::tables::priority_of;
-use crate::tables::zero_slack_instant;
+use tables::Criticality;
+use tables::IDLE;
+use tables::Priority;
+use tables::criticality_of;
+use tables::job_count;
+use tables::nominal_of;
+use tables::priority_of;
+use tables::zero_slack_instant;
 
 // The jobs alive, past zero slack and eligible, and the ready word: bit p for priority p.
 pub(crate) struct View {
@@ -76,8 +76,8 @@ fn past_word(among: u64, tick: u32, tasks: &[u32], jobs: &[u32]) -> u64
 }
 
 // Whether job i is in the set and strictly more critical than c.
-fn outranks(by: u64, c: Criticality, i: u32, tasks: &[u32], jobs: &[u32]) -> bool
-    ensures { λ r. ⌜ r ≡ outranks (lists (now (tasks .entry)) (now (jobs .entry))) by (c .0) i ⌝ }
+fn is_more_critical_in(by: u64, c: Criticality, i: u32, tasks: &[u32], jobs: &[u32]) -> bool
+    ensures { λ r. ⌜ r ≡ moreCriticalIn (lists (now (tasks .entry)) (now (jobs .entry))) by (c .0) i ⌝ }
 {
     if bits::has_bit(by, i) {
         criticality_of(tasks, jobs, i).exceeds(c)
@@ -87,14 +87,14 @@ fn outranks(by: u64, c: Criticality, i: u32, tasks: &[u32], jobs: &[u32]) -> boo
 }
 
 // Whether some job in the set is strictly more critical than c.
-fn is_outranked(by: u64, c: Criticality, tasks: &[u32], jobs: &[u32]) -> bool
+fn is_some_more_critical(by: u64, c: Criticality, tasks: &[u32], jobs: &[u32]) -> bool
     requires { ⌜ jobCount (now jobs) ≤ 64 ⌝ }
-    ensures { λ r. ⌜ r ≡ outranked (lists (now (tasks .entry)) (now (jobs .entry))) by (c .0) ⌝ }
+    ensures { λ r. ⌜ r ≡ someMoreCritical (lists (now (tasks .entry)) (now (jobs .entry))) by (c .0) ⌝ }
 {
     let n = job_count(jobs);
     let mut i: usize = 0;
     while i < n {
-        if outranks(by, c, i as u32, tasks, jobs) {
+        if is_more_critical_in(by, c, i as u32, tasks, jobs) {
             return true;
         }
         i += 1;
@@ -103,27 +103,31 @@ fn is_outranked(by: u64, c: Criticality, tasks: &[u32], jobs: &[u32]) -> bool
 }
 
 // Whether job j is in the one set, and some job of the other is strictly more critical.
-fn lies_below(among: u64, by: u64, j: u32, tasks: &[u32], jobs: &[u32]) -> bool
+fn is_less_critical_in(among: u64, by: u64, j: u32, tasks: &[u32], jobs: &[u32]) -> bool
     requires { ⌜ jobCount (now jobs) ≤ 64 ⌝ }
-    ensures { λ r. ⌜ r ≡ liesBelow (lists (now (tasks .entry)) (now (jobs .entry))) among by j ⌝ }
+    ensures { λ r. ⌜ r ≡ lessCriticalIn (lists (now (tasks .entry)) (now (jobs .entry))) among by j ⌝ }
 {
     if bits::has_bit(among, j) {
-        is_outranked(by, criticality_of(tasks, jobs, j), tasks, jobs)
+        is_some_more_critical(by, criticality_of(tasks, jobs, j), tasks, jobs)
     } else {
         false
     }
 }
 
-// The jobs of one set that some job of another outranks.
-pub(crate) fn below_word(among: u64, by: u64, tasks: &[u32], jobs: &[u32]) -> u64
+// The jobs of one set than which some job of another is strictly more critical.
+pub(crate) fn less_critical_word(among: u64, by: u64, tasks: &[u32], jobs: &[u32]) -> u64
     requires { ⌜ jobCount (now jobs) ≤ 64 ⌝ }
-    ensures { λ r. ⌜ r ≡ belowWord (lists (now (tasks .entry)) (now (jobs .entry))) among by ⌝ }
+    ensures { λ r. ⌜ r ≡ lessCriticalWord (lists (now (tasks .entry)) (now (jobs .entry))) among by ⌝ }
 {
     let n = job_count(jobs);
     let mut word: u64 = 0;
     let mut j: usize = 0;
     while j < n {
-        word = bits::with_bit_if(word, j as u32, lies_below(among, by, j as u32, tasks, jobs));
+        word = bits::with_bit_if(
+            word,
+            j as u32,
+            is_less_critical_in(among, by, j as u32, tasks, jobs),
+        );
         j += 1;
     }
     word
@@ -165,21 +169,14 @@ fn lowest_of(among: u64, p: Priority, tasks: &[u32], jobs: &[u32]) -> u16
         }
         j += 1;
     }
-    65535
-}
-
-// The ticks done, with one more where the job ran; in 64 bits, as the record may hold any number.
-fn with_one(done: u32, ran: bool) -> u64
-    ensures { λ r. ⌜ r ≡ done + cond ran 1 0 ⌝ }
-{
-    if ran { (done as u64) + 1 } else { done as u64 }
+    IDLE
 }
 
 // Whether job j is in the set, and its done, with one more if it runs, exceeds C.
 fn overruns(among: u64, entry: u16, j: u32, done: u32, tasks: &[u32], jobs: &[u32]) -> bool
     ensures { λ r. ⌜ r ≡ overruns (lists (now (tasks .entry)) (now (jobs .entry))) among entry j done ⌝ }
 {
-    let now_done = with_one(done, (entry as u32) == j);
+    let now_done = done_after(done, (entry as u32) == j);
     bits::has_bit(among, j) & ((nominal_of(tasks, jobs, j) as u64) < now_done)
 }
 
@@ -208,7 +205,7 @@ impl View {
     {
         let alive = alive_word(rec, jobs);
         let past = past_word(alive, rec.tick, tasks, jobs);
-        let eligible = bits::without(alive, below_word(alive, past, tasks, jobs));
+        let eligible = bits::without(alive, less_critical_word(alive, past, tasks, jobs));
         let ready = priority_word(eligible, tasks, jobs);
         View {
             alive,

@@ -1,33 +1,28 @@
 // Document 01, verdicts, witnesses, and the part of the caller's schedule that is shown.
 ghost use mathlib.Core.Path.{_≡_};
-ghost use mathlib.Core.Bool.{cond};
-ghost use mathlib.Core.List.{List};
-ghost use Prim.Native.Nat.{ℕ, _≤_, _<_};
-ghost use lib.ListN.{length};
-ghost use Rattle.zsrm.specs.declared.tables.Mode.{Mode};
-ghost use Rattle.zsrm.specs.declared.answers.Claim.{Claim};
-ghost use Rattle.zsrm.specs.Tables.{arrival};
-ghost use Rattle.zsrm.specs.Code.Fields.{lists};
+ghost use mathlib.Core.Bool.{cond, true};
+ghost use Prim.Native.Nat.{_<_};
+ghost use Rattle.tables.specs.Tables.{arrival, lists};
 ghost use Rattle.zsrm.specs.Record.{standingAt};
 ghost use Rattle.zsrm.specs.Code.Claims.{FitsIn};
 ghost use Rattle.zsrm.specs.Verdict.{judged, verdict, missed, answered, partTo, shownBy, Shows};
-ghost use Rattle.zsrm.specs.Answers.{given, checkVerdict, checkWitness, verdictAnswer, witnessAnswer, responseAnswer};
-use crate::answers::Claim;
-use crate::answers::Outcome;
+ghost use Rattle.zsrm.specs.Given.{given};
+ghost use Rattle.zsrm.specs.Answers.{checkVerdict, checkWitness, verdictAnswer, witnessAnswer, responseAnswer};
 use crate::answers::Verdict;
 use crate::answers::Witness;
 use crate::claims::replay;
+use crate::mode::Mode;
 use crate::record::Record;
 use crate::record::Standing;
+use crate::record::check11;
 use crate::record::is_consistent;
-use crate::refusals::before;
-use crate::refusals::check_lists;
-use crate::refusals::check11;
-use crate::refusals::check13;
 use crate::runs::check_schedule;
-use crate::tables::Mode;
-use crate::tables::deadline_instant;
-use crate::tables::job_at;
+use tables::Outcome;
+use tables::before;
+use tables::check_lists;
+use tables::check13;
+use tables::deadline_instant;
+use tables::job_at;
 
 // One verdict or the other.
 fn either(test: bool, passes: Verdict, fails: Verdict) -> Verdict
@@ -94,26 +89,24 @@ fn is_missed(verdict: Verdict) -> bool
     }
 }
 
-// The answers to a witness, in order.
-fn answer(claim: Claim, is_miss: bool) -> Witness
-    ensures { λ r. ⌜ r ≡ answered claim «is_miss» ⌝ }
+// The answers to a witness, in order; `ticks` is the length of the schedule's legal beginning.
+fn answer(legal: bool, ticks: u32, is_miss: bool) -> Witness
+    ensures { λ r. ⌜ r ≡ answered legal ticks «is_miss» ⌝ }
 {
-    match claim {
-        Claim::Refused(number, place) => Witness::Refused(number, place),
-        Claim::Legal => {
-            if is_miss {
-                Witness::Accepted
-            } else {
-                Witness::NotMissed
-            }
+    if legal {
+        if is_miss {
+            Witness::Accepted
+        } else {
+            Witness::NotMissed
         }
-        Claim::NotLegal(t) => Witness::NotLegal(t),
+    } else {
+        Witness::NotLegal(ticks)
     }
 }
 
-// What a witness and the response part check of their input, in either mode: 2 to 10, 13.
+// What a witness and the response part check of their input: 2 to 10, 13.
 fn check_witness(tasks: &[u32], jobs: &[u32], horizon: u32, entries: usize, j: u32) -> Outcome
-    ensures { λ r. ⌜ ((m : Mode) (s : List ℕ) → length s ≡ entries → r ≡ checkWitness (given m (now (tasks .entry)) (now (jobs .entry))) horizon s j) ⌝ }
+    ensures { λ r. ⌜ r ≡ checkWitness (lists (now (tasks .entry)) (now (jobs .entry))) horizon entries j ⌝ }
 {
     before(
         check_schedule(tasks, jobs, horizon, entries),
@@ -137,8 +130,9 @@ pub fn witness(
         Outcome::Done => {
             let replayed = replay(mode, tasks, jobs, schedule);
             let record = replayed.record;
-            let claim = replayed.claim;
-            answer(claim, is_missed(judge_at(record, tasks, jobs, job)))
+            let ticks = replayed.ticks;
+            let missed = is_missed(judge_at(record, tasks, jobs, job));
+            answer((ticks as usize) == schedule.len(), ticks, missed)
         }
         Outcome::Refused(number, place) => Witness::Refused(number, place),
     }
@@ -158,24 +152,24 @@ fn finished_part<'a>(standing: Standing, jobs: &[u32], j: u32, schedule: &'a [u1
     &schedule[from..to]
 }
 
-// The part of a job of the list in a schedule that was replayed; empty where the claim is not legal.
+// The part of a job of the list in a schedule that was replayed; empty where it is not legal.
 fn replayed_part<'a>(
-    claim: Claim,
+    legal: bool,
     rec: Record,
     jobs: &[u32],
     j: u32,
     schedule: &'a [u16],
 ) -> &'a [u16]
-    requires { ⌜ (j < 64) × (claim ≡ Claim.Legal → FitsIn (arrival (now jobs) j) (now schedule) (standingAt rec j)) ⌝ }
-    ensures { λ r. ⌜ Shows (schedule .entry .ptr) (shownBy claim (partTo (arrival (now (jobs .entry)) j) (now (schedule .entry)) (standingAt rec j))) (r .ptr) (now r) ⌝ }
+    requires { ⌜ (j < 64) × (legal ≡ true → FitsIn (arrival (now jobs) j) (now schedule) (standingAt rec j)) ⌝ }
+    ensures { λ r. ⌜ Shows (schedule .entry .ptr) (shownBy legal (partTo (arrival (now (jobs .entry)) j) (now (schedule .entry)) (standingAt rec j))) (r .ptr) (now r) ⌝ }
 {
     let i = j as usize;
     let place = rec.places[i];
     let standing = place.standing;
-    match claim {
-        Claim::Legal => finished_part(standing, jobs, j, schedule),
-        Claim::NotLegal(_) => &schedule[0..0],
-        Claim::Refused(_, _) => &schedule[0..0],
+    if legal {
+        finished_part(standing, jobs, j, schedule)
+    } else {
+        &schedule[0..0]
     }
 }
 
@@ -196,8 +190,9 @@ pub fn response<'a>(
         Outcome::Done => {
             let replayed = replay(mode, tasks, jobs, schedule);
             let record = replayed.record;
-            let claim = replayed.claim;
-            replayed_part(claim, record, jobs, job, schedule)
+            let ticks = replayed.ticks;
+            let legal = (ticks as usize) == schedule.len();
+            replayed_part(legal, record, jobs, job, schedule)
         }
         Outcome::Refused(_, _) => &schedule[0..0],
     }

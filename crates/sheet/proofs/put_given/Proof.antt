@@ -1,8 +1,8 @@
 -- What the library's run answers decides: the run's lines, or the refusal's.
 use borrow.Author.Needs.{needs}
-use Rattle.zsrm.specs.Answers.{given}
 use Rattle.sheet.proofs.Runs.{ran-judged, ran-listing, ran-short, refused-listing}
 use Rattle.sheet.proofs.put_given.Statement.{statement}
+use Rattle.zsrm.specs.Given.{given}
 use Rattle.sheet.proofs.put_given.Tie as tie
 
 put-run-requires : tie.Need-put-run-requires

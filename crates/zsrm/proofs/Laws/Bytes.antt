@@ -1,94 +1,82 @@
--- Lists as bytes: one number more, and what a list of bytes says of the numbers in it.
+-- Lists as bytes: what a list of bytes says of the numbers in it, entries as bytes and back, a run that writes its entries as
+-- bytes, and a claim that is read from them.
 use Prim.Native.Nat.{_%_, _*_, _+_, _/_, _<_, suc, zero, ℕ, _≤_}
-use mathlib.Core.Bool.{Bool, false, not, or-true, true, _||_}
+use mathlib.Core.Bool.{false, true}
 use mathlib.Core.List.{_++_, List, [], append-assoc, _∷_}
-use mathlib.Core.Logic.{inl, inr, _⊎_}
-use mathlib.Core.Path.{ap, ap₂, refl, subst, sym, _∙_, _≡_}
-use native.Mathlib.Numerals.{add-one}
+use mathlib.Core.Path.{ap, ap₂, refl, sym, _∙_, _≡_}
 use native.Mathlib.Omega.{arith}
-use lib.Dec.{eqb, ltb}
 use lib.ListN.{getD, length, length-set, set, take}
-use lib.Seq.{ext-getD, take-suc-set}
-use borrow.Author.Tests.{eq-eqb, eqb-true, lt-ltb, ltb-false, ltb-true, not-false}
+use lib.Seq.{take-all, take-suc-set}
+use borrow.Author.Tests.{eq-eqb, ne-eqb}
 use Rattle.bits.specs.Below.{listFrom}
-use Rattle.bits.proofs.Below.{getD-list, getD-listFrom, length-listFrom, list-snoc}
-use Rattle.bits.proofs.Bools.{either, or-left-false, or-right-false}
-use Rattle.bits.proofs.Most.{most}
-use Rattle.zsrm.specs.declared.answers.Outcome.{Outcome}
-use Rattle.zsrm.specs.declared.answers.Outcome.the-variants.{Done, Refused}
+use Rattle.bits.proofs.Below.{getD-list, length-listFrom}
+use Rattle.zsrm.specs.declared.answers.Stepped.{Stepped}
+use Rattle.zsrm.specs.declared.claims.Tried.{Tried}
 use Rattle.zsrm.specs.declared.record.Record.{Record}
-use Rattle.zsrm.specs.Bytes.{bytes2, number2, number4, numbers2, numbers4, uneven}
-use Rattle.zsrm.specs.Refusals.{before, check10, check2, check5, check9, checkJobs, checkTasks, outside, refuse}
-use Rattle.zsrm.specs.Run.{entries}
-use Rattle.zsrm.specs.Tables.{Given, jobCount, taskCount}
+use Rattle.tables.specs.Bytes.{numberAt}
+use Rattle.zsrm.specs.Answers.{stepped}
+use Rattle.zsrm.specs.Bytes.{bytes2, number2, numbers2, numbers4, packedClaim}
+use Rattle.zsrm.specs.Code.Called.{decoded}
+use Rattle.zsrm.specs.Code.Claims.{tried}
+use Rattle.zsrm.specs.Legal.{claim}
+use Rattle.zsrm.specs.Given.{Given}
+use Rattle.zsrm.specs.Record.{fresh}
+use Rattle.zsrm.specs.Run.{entriesBy, runEntries}
 use Rattle.zsrm.specs.Tick.{choice}
-use Rattle.zsrm.proofs.Laws.Going.{Going, entries-more}
+use Rattle.zsrm.proofs.Laws.Claims.{Replaying, claim-answer, replaying-ends, replaying-more, replaying-stops, tried-says}
+use Rattle.zsrm.proofs.Laws.Consistent.{fresh-consistent}
+use Rattle.zsrm.proofs.Laws.Going.{Going, entries-more, entries-none, going-more, going-none, steps-entry}
+use Rattle.zsrm.proofs.Laws.Places.{tick-fresh}
+use Rattle.zsrm.proofs.Laws.Run.{choice-may}
 
--- one more number decoded behind those that are there
-pub decode-more : (bytes l : List ℕ) (i v : ℕ) → take i l ≡ listFrom 0 i (number4 bytes) → i < length l → v ≡ number4 bytes i
-    → take (i + 1) (set l i v) ≡ listFrom 0 (i + 1) (number4 bytes)
-decode-more bytes l i v p b q =
-    rw add-one (take-suc-set l i v b ∙ ap₂ (λ (x : List ℕ) (c : ℕ). x ++ (c ∷ [])) p q ∙ sym (list-snoc (number4 bytes) i))
+take-list : (f : ℕ → ℕ) (i n m : ℕ) → n ≤ m → take n (listFrom i m f) ≡ listFrom i n f
+unfolding listFrom
+take-list f i zero m h = refl
+take-list f i (suc n) zero h = absurd (omega arith)
+take-list f i (suc n) (suc m) h = ap (λ (l : List ℕ). f i ∷ l) (take-list f (suc i) n m (omega arith))
 
-pub bytes2-append : (xs ys : List ℕ) → bytes2 (xs ++ ys) ≡ bytes2 xs ++ bytes2 ys
-unfolding bytes2
-bytes2-append [] ys = refl
-bytes2-append (x ∷ xs) ys = ap (λ (l : List ℕ). x % 256 ∷ x / 256 ∷ l) (bytes2-append xs ys)
+-- a list of at most 192 numbers is decoded whole
+pub decoded-front : (bytes : List ℕ) → length bytes ≤ 768 → take (length bytes / 4) (decoded bytes) ≡ numbers4 bytes
+unfolding decoded numbers4
+decoded-front bytes h = take-list (λ i. numberAt bytes (i * 4)) 0 (length bytes / 4) 192 (omega arith)
 
--- one more entry written behind those that are there
-pub put-more : (l e : List ℕ) (i x : ℕ) → i * 2 + 1 < length l → take (i * 2) l ≡ bytes2 e
-    → take ((i + 1) * 2) (set (set l (i * 2) (x % 256)) (i * 2 + 1) (x / 256)) ≡ bytes2 (e ++ (x ∷ []))
-unfolding bytes2
-put-more l e i x h t =
-    let m : List ℕ = set l (i * 2) (x % 256) in
-    let n₁ : (i + 1) * 2 ≡ suc (i * 2 + 1) = omega arith in
-    let n₂ : i * 2 + 1 ≡ suc (i * 2) = omega arith in
-    ap (λ (k : ℕ). take k (set m (i * 2 + 1) (x / 256))) n₁
-    ∙ take-suc-set m (i * 2 + 1) (x / 256) (omega (arith, length-set l (i * 2) (x % 256)))
-    ∙ ap (λ (k : ℕ). take k m ++ (x / 256 ∷ [])) n₂
-    ∙ ap (λ (q : List ℕ). q ++ (x / 256 ∷ [])) (take-suc-set l (i * 2) (x % 256) (omega arith))
-    ∙ append-assoc (take (i * 2) l) (x % 256 ∷ []) (x / 256 ∷ [])
-    ∙ ap (λ (q : List ℕ). q ++ (x % 256 ∷ x / 256 ∷ [])) t
-    ∙ sym (bytes2-append e (x ∷ []))
+pub length-decoded : (bytes : List ℕ) → length (decoded bytes) ≡ 192
+unfolding decoded
+length-decoded bytes = length-listFrom 0 192 _
 
 pub length-numbers4 : (bytes : List ℕ) → length (numbers4 bytes) ≡ length bytes / 4
 unfolding numbers4
-length-numbers4 bytes = length-listFrom 0 (length bytes / 4) (number4 bytes)
+length-numbers4 bytes = length-listFrom 0 (length bytes / 4) _
 
 pub length-numbers2 : (bytes : List ℕ) → length (numbers2 bytes) ≡ length bytes / 2
 unfolding numbers2
 length-numbers2 bytes = length-listFrom 0 (length bytes / 2) (number2 bytes)
 
 -- the entry at a tick
-pub entry-at : (bytes : List ℕ) (t : ℕ) → t < length bytes / 2 → getD (numbers2 bytes) t 0 ≡ number2 bytes t
+entry-at : (bytes : List ℕ) (t : ℕ) → t < length bytes / 2 → getD (numbers2 bytes) t 0 ≡ number2 bytes t
 unfolding numbers2
 entry-at bytes t b = getD-list (length bytes / 2) (number2 bytes) t 0 b
 
+-- two bytes in front are one number in front
+numbers-more : (a b : ℕ) (bytes : List ℕ) → numbers2 (a ∷ b ∷ bytes) ≡ (a + b * 256) ∷ numbers2 bytes
+unfolding numbers2 number2 listFrom
+numbers-more a b bytes =
+    let half : length (a ∷ b ∷ bytes) / 2 ≡ suc (length bytes / 2) = omega arith in
+    ap (λ (n : ℕ). listFrom 0 n (number2 (a ∷ b ∷ bytes))) half
+    ∙ ap (λ (l : List ℕ). (a + b * 256) ∷ l) (behind 0 (length bytes / 2))
+  where
+    behind : (i n : ℕ) → listFrom (suc i) n (number2 (a ∷ b ∷ bytes)) ≡ listFrom i n (number2 bytes)
+    behind i zero = refl
+    behind i (suc n) =
+        let low : suc i * 2 ≡ suc (suc (i * 2)) = omega arith in
+        let high : suc i * 2 + 1 ≡ suc (suc (i * 2 + 1)) = omega arith in
+        ap₂ (λ (x : ℕ) (l : List ℕ). x ∷ l) (ap₂ (λ (x y : ℕ). getD (a ∷ b ∷ bytes) x 0 + getD (a ∷ b ∷ bytes) y 0 * 256) low high) (behind (suc i) n)
+
 -- entries written as bytes and read again are the entries
-pub length-bytes2 : (es : List ℕ) → length (bytes2 es) ≡ length es * 2
-unfolding bytes2
-length-bytes2 [] = refl
-length-bytes2 (e ∷ es) = omega (arith, length-bytes2 es)
-
--- behind two bytes a number stands one place further on
-number2-behind : (a b : ℕ) (bytes : List ℕ) (i : ℕ) → number2 (a ∷ b ∷ bytes) (suc i) ≡ number2 bytes i
-unfolding number2
-number2-behind a b bytes i =
-    ap₂ (λ (x y : ℕ). getD (a ∷ b ∷ bytes) x 0 + getD (a ∷ b ∷ bytes) y 0 * 256)
-    (let e : suc i * 2 ≡ suc (suc (i * 2)) = omega arith in e) (let e : suc i * 2 + 1 ≡ suc (suc (i * 2 + 1)) = omega arith in e)
-
-number2-bytes2 : (es : List ℕ) (i : ℕ) → number2 (bytes2 es) i ≡ getD es i 0
-unfolding bytes2 number2
-number2-bytes2 [] i = omega arith
-number2-bytes2 (e ∷ es) zero = omega arith
-number2-bytes2 (e ∷ es) (suc i) = number2-behind (e % 256) (e / 256) (bytes2 es) i ∙ number2-bytes2 es i
-
 pub entries-back : (es : List ℕ) → numbers2 (bytes2 es) ≡ es
-unfolding numbers2
-entries-back es =
-    let n : length (numbers2 (bytes2 es)) ≡ length es = omega (arith, length-numbers2 (bytes2 es), length-bytes2 es) in
-    ext-getD 0 (numbers2 (bytes2 es)) es n
-    (λ i l. entry-at (bytes2 es) i (omega (arith, length-bytes2 es)) ∙ number2-bytes2 es i)
+unfolding bytes2 numbers2 listFrom
+entries-back [] = refl
+entries-back (e ∷ es) = numbers-more (e % 256) (e / 256) (bytes2 es) ∙ ap₂ (λ (x : ℕ) (l : List ℕ). x ∷ l) (omega arith) (entries-back es)
 
 -- bytes read as entries and written again are the bytes, where their count is even
 pub bytes-back : (bytes : List ℕ) → length bytes % 2 ≡ 0 → ((i : ℕ) → i < length bytes → getD bytes i 0 < 256) → bytes2 (numbers2 bytes) ≡ bytes
@@ -97,114 +85,80 @@ bytes-back [] even small = refl
 bytes-back (a ∷ []) even small = absurd (omega arith)
 bytes-back (a ∷ b ∷ bytes) even small =
     let low : a < 256 = small 0 (omega arith) in
-    let first : number2 (a ∷ b ∷ bytes) 0 ≡ a + b * 256 = unfold number2 in omega arith in
-    ap bytes2 (numbers-more a b bytes)
-    ∙ ap₂ (λ (x : ℕ) (l : List ℕ). x % 256 ∷ x / 256 ∷ l) first (bytes-back bytes (omega arith) (λ i l. small (suc (suc i)) (omega arith)))
-    ∙ ap₂ (λ (x y : ℕ). x ∷ y ∷ bytes) (let e : (a + b * 256) % 256 ≡ a = omega arith in e) (let e : (a + b * 256) / 256 ≡ b = omega arith in e)
-  where
-    numbers-more : (a b : ℕ) (bytes : List ℕ) → numbers2 (a ∷ b ∷ bytes) ≡ number2 (a ∷ b ∷ bytes) 0 ∷ numbers2 bytes
-    numbers-more a b bytes =
-        let n : length (a ∷ b ∷ bytes) / 2 ≡ suc (length bytes / 2) = omega arith in
-        ap (λ (k : ℕ). listFrom 0 k (number2 (a ∷ b ∷ bytes))) n
-        ∙ ap (λ (l : List ℕ). number2 (a ∷ b ∷ bytes) 0 ∷ l)
-        (ext-getD 0 (listFrom 1 (length bytes / 2) (number2 (a ∷ b ∷ bytes))) (numbers2 bytes)
-        (length-listFrom 1 (length bytes / 2) (number2 (a ∷ b ∷ bytes)) ∙ sym (length-numbers2 bytes))
-        (λ i l. let m = length-listFrom 1 (length bytes / 2) (number2 (a ∷ b ∷ bytes)) in
-        getD-listFrom 1 (length bytes / 2) (number2 (a ∷ b ∷ bytes)) i 0 (omega arith)
-        ∙ ap (number2 (a ∷ b ∷ bytes)) (let e : 1 + i ≡ suc i = omega arith in e) ∙ number2-behind a b bytes i ∙ sym (entry-at bytes i (omega arith))))
+    let first : (a + b * 256) % 256 ≡ a = omega arith in
+    let second : (a + b * 256) / 256 ≡ b = omega arith in
+    rw (numbers-more, first, second, bytes-back bytes (omega arith) (λ i l. small (suc (suc i)) (omega arith)))
 
--- a byte count that makes no whole number, or is too long, is refused with the list's own number; any other says nothing yet
-pub fits-whole : (bytes : List ℕ) (most : ℕ) → (not (eqb (length bytes % 4) 0) || ltb most (length bytes)) ≡ false → (length bytes % 4 ≡ 0) × (length bytes ≤ most)
-fits-whole bytes most h =
-    (eqb-true (length bytes % 4) 0 (not-false (eqb (length bytes % 4) 0) (or-left-false _ _ h)), ltb-false most (length bytes) (or-right-false (not (eqb (length bytes % 4) 0)) _ h))
+pub length-bytes2 : (es : List ℕ) → length (bytes2 es) ≡ length es * 2
+unfolding bytes2
+length-bytes2 [] = refl
+length-bytes2 (e ∷ es) = omega (arith, length-bytes2 es)
 
-whole : (bytes : List ℕ) (number : ℕ) (later : Outcome) → length bytes % 4 ≡ 0 → before (uneven bytes 4 number) later ≡ later
-unfolding uneven refuse before
-whole bytes number later e = rw (eq-eqb (length bytes % 4) 0 e)
+bytes2-append : (xs ys : List ℕ) → bytes2 (xs ++ ys) ≡ bytes2 xs ++ bytes2 ys
+unfolding bytes2
+bytes2-append [] ys = refl
+bytes2-append (x ∷ xs) ys = ap (λ (l : List ℕ). x % 256 ∷ x / 256 ∷ l) (bytes2-append xs ys)
 
-pub whole-tasks : (tasks : List ℕ) → length tasks % 4 ≡ 0 → before (uneven tasks 4 2) (checkTasks (numbers4 tasks)) ≡ checkTasks (numbers4 tasks)
-whole-tasks tasks e = whole tasks 2 (checkTasks (numbers4 tasks)) e
+-- one more entry written behind those that are there
+put-more : (l e : List ℕ) (i x : ℕ) → i * 2 + 1 < length l → take (i * 2) l ≡ bytes2 e
+    → take ((i + 1) * 2) (set (set l (i * 2) (x % 256)) (i * 2 + 1) (x / 256)) ≡ bytes2 (e ++ (x ∷ []))
+unfolding bytes2
+put-more l e i x h t =
+    let next : (i + 1) * 2 ≡ suc (i * 2 + 1) = omega arith in
+    let high : i * 2 + 1 ≡ suc (i * 2) = omega arith in
+    let long : i * 2 + 1 < length (set l (i * 2) (x % 256)) = omega (arith, length-set l (i * 2) (x % 256)) in
+    let low : i * 2 < length l = omega arith in
+    rw (next, take-suc-set, high, take-suc-set, t, append-assoc, bytes2-append)
 
-pub whole-jobs : (list jobs : List ℕ) → length jobs % 4 ≡ 0 → before (uneven jobs 4 5) (checkJobs list (numbers4 jobs)) ≡ checkJobs list (numbers4 jobs)
-whole-jobs list jobs e = whole jobs 5 (checkJobs list (numbers4 jobs)) e
+-- a run from the fresh record that has written the entries of its first t ticks as bytes
+pub record Writing (g : Given) (size : ℕ) (bytes : List ℕ) (r : Record) (t : ℕ) : Type 0 where
+  pub long : length bytes ≡ size
+  pub going : Going g (choice g) (fresh (g .lists .jobs)) r t
+  pub front : take (t * 2) bytes ≡ bytes2 (entriesBy g (choice g) (fresh (g .lists .jobs)) t)
 
--- refused by its count, or else by the check of the list's length
-refused-by : (bytes : List ℕ) (most number : ℕ) (check : Outcome) → (not (eqb (length bytes % 4) 0) || ltb most (length bytes)) ≡ true
-    → (length bytes % 4 ≡ 0 → most < length bytes → check ≡ Refused number 0) → before (uneven bytes 4 number) check ≡ Refused number 0
-unfolding uneven refuse before
-refused-by bytes most number check h long = go (either (eqb (length bytes % 4) 0))
-  where
-    go : (eqb (length bytes % 4) 0 ≡ true) ⊎ (eqb (length bytes % 4) 0 ≡ false) → before (refuse (not (eqb (length bytes % 4) 0)) number 0) check ≡ Refused number 0
-    go (inl e) =
-        rw e (long (eqb-true (length bytes % 4) 0 e) (ltb-true most (length bytes) (subst (λ (b : Bool). (not b || ltb most (length bytes)) ≡ true) e h)))
-    go (inr e) = rw e
+module _ (g : Given) (bytes : List ℕ) (r : Record) where
+  pub writing-none : r ≡ fresh (g .lists .jobs) → Writing g (length bytes) bytes r 0
+  unfolding bytes2
+  writing-none q =
+      record { long = refl; going = rw q (going-none g (choice g) _ (fresh-consistent g)); front = rw (entries-none g (choice g) (fresh (g .lists .jobs))) }
 
-stops : (first later : Outcome) (number : ℕ) → first ≡ Refused number 0 → before first later ≡ Refused number 0
-unfolding before
-stops first later number e = rw e
+  -- the tick that it has come to
+  pub writing-tick : (size t : ℕ) → Writing g size bytes r t → r .tick ≡ t
+  writing-tick size t w = omega (arith, w .going .time, tick-fresh (g .lists .jobs))
 
-pub tasks-refused : (tasks : List ℕ) → (not (eqb (length tasks % 4) 0) || ltb 448 (length tasks)) ≡ true → before (uneven tasks 4 2) (checkTasks (numbers4 tasks)) ≡ Refused 2 0
-unfolding checkTasks check2 outside taskCount
-tasks-refused tasks h = refused-by tasks 448 2 (checkTasks (numbers4 tasks)) h (λ e m. stops (check2 (numbers4 tasks)) _ 2 (two e m))
-  where
-    two : length tasks % 4 ≡ 0 → 448 < length tasks → check2 (numbers4 tasks) ≡ Refused 2 0
-    two e m =
-        let n = length-numbers4 tasks in
-        refused (length (numbers4 tasks)) (omega (arith, n))
-      where
-        refused : (n : ℕ) → 112 < n → refuse (not (eqb (n % 7) 0) || (ltb (n / 7) 1 || ltb 16 (n / 7))) 2 0 ≡ Refused 2 0
-        refused n m = go (either (eqb (n % 7) 0))
-          where
-            go : (eqb (n % 7) 0 ≡ true) ⊎ (eqb (n % 7) 0 ≡ false) → refuse (not (eqb (n % 7) 0) || (ltb (n / 7) 1 || ltb 16 (n / 7))) 2 0 ≡ Refused 2 0
-            go (inl e) = let z = eqb-true (n % 7) 0 e in rw (e, lt-ltb 16 (n / 7) (omega arith), or-true (ltb (n / 7) 1)) (unfold refuse in refl)
-            go (inr e) = rw e (unfold refuse in refl)
+  pub writing-more : (size t : ℕ) (s : Stepped) (after : List ℕ) → Writing g size bytes r t → t * 2 + 1 < size → t < 16384 → s ≡ stepped g r
+      → after ≡ set (set bytes (t * 2) (s .entry % 256)) (t * 2 + 1) (s .entry / 256) → Writing g size after (s .«record») (t + 1)
+  writing-more size t s after w b limit q p =
+      let e = steps-entry g r s q in
+      record {
+        long = rw (p, length-set, length-set) (w .long);
+        going = going-more g (choice g) _ r (s .«record») t (w .going) (omega (arith, tick-fresh (g .lists .jobs))) (choice-may g r) (e .1);
+        front = rw (p, entries-more g (choice g) (fresh (g .lists .jobs)) t, ← w .going .is, ← e .0) (put-more bytes _ t (s .entry) (omega (arith, w .long)) (w .front));
+      }
 
-pub jobs-refused : (list jobs : List ℕ) → (not (eqb (length jobs % 4) 0) || ltb 768 (length jobs)) ≡ true → before (uneven jobs 4 5) (checkJobs list (numbers4 jobs)) ≡ Refused 5 0
-unfolding checkJobs check5 jobCount
-jobs-refused list jobs h = refused-by jobs 768 5 (checkJobs list (numbers4 jobs)) h (λ e m. stops (check5 (numbers4 jobs)) _ 5 (five e m))
-  where
-    five : length jobs % 4 ≡ 0 → 768 < length jobs → check5 (numbers4 jobs) ≡ Refused 5 0
-    five e m =
-        let n = length-numbers4 jobs in
-        refused (length (numbers4 jobs)) (omega (arith, n))
-      where
-        refused : (n : ℕ) → 192 < n → refuse (not (eqb (n % 3) 0) || ltb 64 (n / 3)) 5 0 ≡ Refused 5 0
-        refused n m = go (either (eqb (n % 3) 0))
-          where
-            go : (eqb (n % 3) 0 ≡ true) ⊎ (eqb (n % 3) 0 ≡ false) → refuse (not (eqb (n % 3) 0) || ltb 64 (n / 3)) 5 0 ≡ Refused 5 0
-            go (inl e) = let z = eqb-true (n % 3) 0 e in rw (e, lt-ltb 64 (n / 3) (omega arith)) (unfold refuse in refl)
-            go (inr e) = rw e (unfold refuse in refl)
+  pub writing-all : (size t : ℕ) → Writing g size bytes r t → size % 2 ≡ 0 → t ≡ size / 2 → bytes ≡ bytes2 (runEntries g (size / 2))
+  unfolding runEntries
+  writing-all size t w even all = rw (← all) (sym (take-all (t * 2) bytes (omega (arith, w .long))) ∙ w .front)
 
--- one more entry of a run, as bytes
-pub going-bytes : (g : Given) (start r : Record) (l : List ℕ) (n e : ℕ) → Going g start r n → take (n * 2) l ≡ bytes2 (entries g start n) → n * 2 + 1 < length l → e ≡ choice g r
-    → take ((n + 1) * 2) (set (set l (n * 2) (e % 256)) (n * 2 + 1) (e / 256)) ≡ bytes2 (entries g start (n + 1))
-going-bytes g start r l n e w p b q =
-    put-more l (entries g start n) n e b p ∙ ap (λ (c : ℕ). bytes2 (entries g start n ++ (c ∷ []))) (q ∙ ap (choice g) (w .is)) ∙ ap bytes2 (sym (entries-more g start n))
+-- a claim that is replayed from its bytes, as one number
+module _ (g : Given) (bytes : List ℕ) (r : Record) (last t : ℕ) (w : Replaying g (numbers2 bytes) r last t) where
+  module _ (e : ℕ) (x : Tried) (b : t < length bytes / 2) (q : e ≡ number2 bytes t) (p : x ≡ tried g r last e) where
+    pub reading-more : length bytes ≤ 32768 → x .legal ≡ true → Replaying g (numbers2 bytes) (x .«record») e (t + 1)
+    reading-more limit h =
+        let n = length-numbers2 bytes in
+        let s = tried-says g r last e x p in
+        let legal = sym (s .0) ∙ h in
+        replaying-more g (numbers2 bytes) r (x .«record») last t e w (omega arith) (omega arith) (q ∙ sym (entry-at bytes t b)) legal (s .1 legal)
 
--- the checks of the schedule's bytes, by their count
-pub schedule-bytes : (s : List ℕ) (len horizon : ℕ) (odd other : Outcome) → length s ≡ len → odd ≡ refuse (not (eqb (len % 2) 0)) 10 0 → other ≡ refuse (not (eqb (len / 2) horizon)) 10 0
-    → before (check9 horizon) (before odd other) ≡ before (check9 horizon) (before (uneven s 2 10) (check10 (numbers2 s) horizon))
-unfolding uneven check10
-schedule-bytes s len horizon odd other e p q =
-    ap₂ (λ (a b : Outcome). before (check9 horizon) (before a b)) (p ∙ ap (λ (k : ℕ). refuse (not (eqb (k % 2) 0)) 10 0) (sym e))
-    (q ∙ ap (λ (k : ℕ). refuse (not (eqb k horizon)) 10 0) (ap (λ (k : ℕ). k / 2) (sym e) ∙ sym (length-numbers2 s)))
+    pub reading-stops : x .legal ≡ false → 65536 + t ≡ packedClaim (claim g (numbers2 bytes))
+    unfolding packedClaim
+    reading-stops h =
+        let n = length-numbers2 bytes in
+        let m = replaying-stops g (numbers2 bytes) r r last t e w (omega arith) (q ∙ sym (entry-at bytes t b)) (sym (tried-says g r last e x p .0) ∙ h) in
+        ap packedClaim (rw (ne-eqb t (length (numbers2 bytes)) (λ z. omega arith)) at (claim-answer g (numbers2 bytes) _ m))
 
--- a table whose checks are done is no longer than 16 tasks
-pub tasks-small : (tasks : List ℕ) → before (uneven tasks 4 2) (checkTasks (numbers4 tasks)) ≡ Done → length tasks ≤ 448
-tasks-small tasks ok = go (either (not (eqb (length tasks % 4) 0) || ltb 448 (length tasks)))
-  where
-    go : ((not (eqb (length tasks % 4) 0) || ltb 448 (length tasks)) ≡ true) ⊎ ((not (eqb (length tasks % 4) 0) || ltb 448 (length tasks)) ≡ false) → length tasks ≤ 448
-    go (inl h) = let r = tasks-refused tasks h in let z : _≡_ {A = ℕ} 0 1 = cc in absurd (omega arith)
-    go (inr h) = fits-whole tasks 448 h .1
-
-pub jobs-small : (list jobs : List ℕ) → before (uneven jobs 4 5) (checkJobs list (numbers4 jobs)) ≡ Done → length jobs ≤ 768
-jobs-small list jobs ok = go (either (not (eqb (length jobs % 4) 0) || ltb 768 (length jobs)))
-  where
-    go : ((not (eqb (length jobs % 4) 0) || ltb 768 (length jobs)) ≡ true) ⊎ ((not (eqb (length jobs % 4) 0) || ltb 768 (length jobs)) ≡ false) → length jobs ≤ 768
-    go (inl h) = let r = jobs-refused list jobs h in let z : _≡_ {A = ℕ} 0 1 = cc in absurd (omega arith)
-    go (inr h) = fits-whole jobs 768 h .1
-
-pub before-assoc : (a b c : Outcome) → before (before a b) c ≡ before a (before b c)
-unfolding before
-before-assoc Done b c = refl
-before-assoc (Refused n p) b c = refl
+  pub reading-ends : t ≡ length bytes / 2 → 0 ≡ packedClaim (claim g (numbers2 bytes))
+  unfolding packedClaim
+  reading-ends all =
+      let n = length-numbers2 bytes in
+      ap packedClaim (rw (eq-eqb t (length (numbers2 bytes)) (omega arith)) at (claim-answer g (numbers2 bytes) _ (replaying-ends g (numbers2 bytes) r last t w (omega arith))))

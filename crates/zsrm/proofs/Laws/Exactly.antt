@@ -1,32 +1,38 @@
 -- Answers in numbers, exactly: equal numbers are equal answers, and an answer is a refusal exactly where a check refuses.
+use lib.ListN.{length}
 use Prim.Native.Nat.{_<_, ℕ, _≤_}
 use mathlib.Core.List.{List}
 use mathlib.Core.Logic.{Iff·trans, inl, inr, _↔_, _⊎_, ⊎-elim}
 use mathlib.Core.Path.{ap, refl, sym, _∙_, _≡_}
 use native.Mathlib.Omega.{arith}
 use Rattle.zsrm.specs.declared.answers.Stepped.{Stepped}
-use Rattle.zsrm.specs.declared.answers.Outcome.{Outcome}
-use Rattle.zsrm.specs.declared.answers.Outcome.the-variants.{Done, Refused}
+use Rattle.tables.specs.declared.outcome.Outcome.{Outcome}
+use Rattle.tables.specs.declared.outcome.Outcome.the-variants.{Done, Refused}
 use Rattle.zsrm.specs.declared.record.Record.{Record}
 use Rattle.zsrm.specs.declared.record.Standing.{Standing}
-use Rattle.zsrm.specs.declared.answers.Claim.{Claim}
 use Rattle.zsrm.specs.declared.answers.Verdict.{Verdict}
-use Rattle.zsrm.specs.Answers.{checkSchedule, checkStep, checkVerdict, checkWitness, claimAnswer, refusedStep, responseAnswer, stepAnswer, stepped, unless, verdictAnswer, witnessAnswer, freshAnswer, ran}
-use Rattle.zsrm.specs.Legal.{claim}
+use mathlib.Core.Bool.{Bool, true, false, cond}
+use Rattle.zsrm.specs.Answers.{checkSchedule, checkStep, checkVerdict, checkWitness, claimAnswer, refusedStep, responseAnswer, stepAnswer, stepped, verdictAnswer, witnessAnswer, freshAnswer, ran}
+use Rattle.tables.specs.Refusals.{unless, checkLists}
+use Rattle.zsrm.specs.Legal.{claim, isLegal, legalLength}
 use Rattle.zsrm.specs.Record.{blank, fresh, standingAt}
-use Rattle.zsrm.specs.Said.{claimSaid, outcomeSaid, verdictSaid, witnessSaid, standingSaid}
-use Rattle.zsrm.specs.Tables.{Given, arrival, deadlineInstant}
+use Rattle.zsrm.specs.Said.{claimSaid, verdictSaid, witnessSaid, standingSaid}
+use Rattle.tables.specs.Said.{outcomeSaid}
+use Rattle.zsrm.specs.Given.{Given}
 use Rattle.zsrm.specs.Verdict.{emptyPart, verdict, witness, part, partTo, shownBy}
-use Rattle.zsrm.proofs.Laws.Answers.{accepted, unless-refused, unless-done}
-use Rattle.zsrm.proofs.Laws.Said.{claim-said, outcome-said, verdict-said, witness-said, standing-said}
+use Rattle.zsrm.proofs.Laws.Answers.{accepted}
+use Rattle.zsrm.proofs.Laws.Said.{claim-said, verdict-said, witness-said, standing-said}
 use Rattle.zsrm.proofs.Readings.{LeastIllegal, LegalAt, claim-legal, claim-not-legal, claim-not-refused, verdict-reads, witness-reads, Judged, alive-reads}
-use Rattle.zsrm.specs.Refusals.{checkLists}
+use Rattle.tables.proofs.Laws.Refusals.{unless-refused, unless-done}
+use Rattle.tables.specs.Tables.{arrival, deadlineInstant, lists}
 use Rattle.zsrm.specs.Run.{replayed}
+use Rattle.tables.proofs.Laws.Said.{outcome-said}
 use Rattle.zsrm.specs.declared.answers.Claim.the-variants as claims
-use Rattle.zsrm.specs.declared.record.Standing.the-variants as standings
 use Rattle.zsrm.specs.declared.answers.Verdict.the-variants as verdicts
 use Rattle.zsrm.specs.declared.answers.Witness.the-variants as witnesses
+use Rattle.zsrm.specs.declared.record.Standing.the-variants as standings
 use Rattle.zsrm.specs.Said as say
+use Rattle.tables.specs.Said as outcome
 
 module _ {A : Type 0} (refused : ℕ → ℕ → A) (answer x : A) where
   -- an answer that is none of the refusals says that nothing was refused
@@ -43,33 +49,33 @@ module _ {A : Type 0} (said : A → List ℕ) (told : (a b : A) → said a ≡ s
 module _ (g : Given) (horizon : ℕ) (schedule : List ℕ) where
   -- a claim whose input passes the checks, and the ticks of its schedule
   pub legal-exactly : claimSaid (claimAnswer g horizon schedule) ≡ say.legal
-      ↔ (outcomeSaid (checkSchedule g horizon schedule) ≡ say.done) × ((t : ℕ) → t < horizon → LegalAt g schedule t)
+      ↔ (outcomeSaid (checkSchedule (g .lists) horizon (length schedule)) ≡ outcome.done) × ((t : ℕ) → t < horizon → LegalAt g schedule t)
   unfolding claimSaid outcomeSaid claimAnswer
   legal-exactly =
       Iff·trans (exactly claimSaid claim-said (claimAnswer g horizon schedule) claims.Legal)
-      (Iff·trans (answered claims.Refused (claim g schedule) claims.Legal (λ n p e. let z : _≡_ {A = ℕ} 0 1 = cc in omega arith) (checkSchedule g horizon schedule)) (
-        λ w. let a = accepted g horizon schedule (w .0) in (ap outcomeSaid (w .0), λ t l. claim-legal g schedule .0 (w .1) t (omega arith)),
-        λ w. let ok = outcome-said (checkSchedule g horizon schedule) Done (w .0) in
-            let a = accepted g horizon schedule ok in
+      (Iff·trans (answered claims.Refused (claim g schedule) claims.Legal (λ n p e. let z : _≡_ {A = ℕ} 0 1 = cc in omega arith) (checkSchedule (g .lists) horizon (length schedule))) (
+        λ w. let a = accepted (g .lists) horizon (length schedule) (w .0) in (ap outcomeSaid (w .0), λ t l. claim-legal g schedule .0 (w .1) t (omega arith)),
+        λ w. let ok = outcome-said (checkSchedule (g .lists) horizon (length schedule)) Done (w .0) in
+            let a = accepted (g .lists) horizon (length schedule) ok in
             (ok, claim-legal g schedule .1 (λ t l. w .1 t (omega arith))),
       ))
 
   pub not-legal-exactly : (t : ℕ) → claimSaid (claimAnswer g horizon schedule) ≡ say.notLegal t
-      ↔ (outcomeSaid (checkSchedule g horizon schedule) ≡ say.done) × LeastIllegal g schedule t
+      ↔ (outcomeSaid (checkSchedule (g .lists) horizon (length schedule)) ≡ outcome.done) × LeastIllegal g schedule t
   unfolding claimSaid outcomeSaid claimAnswer
   not-legal-exactly t =
       Iff·trans (exactly claimSaid claim-said (claimAnswer g horizon schedule) (claims.NotLegal t))
-      (Iff·trans (answered claims.Refused (claim g schedule) (claims.NotLegal t) (λ n p e. let z : _≡_ {A = ℕ} 0 1 = cc in omega arith) (checkSchedule g horizon schedule)) (
+      (Iff·trans (answered claims.Refused (claim g schedule) (claims.NotLegal t) (λ n p e. let z : _≡_ {A = ℕ} 0 1 = cc in omega arith) (checkSchedule (g .lists) horizon (length schedule))) (
         λ w. (ap outcomeSaid (w .0), claim-not-legal g schedule t .0 (w .1)),
-        λ w. (outcome-said (checkSchedule g horizon schedule) Done (w .0), claim-not-legal g schedule t .1 (w .1)),
+        λ w. (outcome-said (checkSchedule (g .lists) horizon (length schedule)) Done (w .0), claim-not-legal g schedule t .1 (w .1)),
       ))
 
 -- an answer is a refusal exactly where the checks refuse, and then with their number and place
 module _ {A : Type 0} (said : A → List ℕ) (told : (a b : A) → said a ≡ said b → a ≡ b) (refused : ℕ → ℕ → A)
     (apart : (n p number place : ℕ) → refused n p ≡ refused number place → Refused n p ≡ Refused number place)
-    (says : (number place : ℕ) → said (refused number place) ≡ say.refused number place) where
+    (says : (number place : ℕ) → said (refused number place) ≡ outcome.refused number place) where
   refused-exactly : (answer : A) → ((number place : ℕ) → answer ≡ refused number place → ⊥) → (o : Outcome) (number place : ℕ)
-      → said (unless o refused answer) ≡ say.refused number place ↔ outcomeSaid o ≡ say.refused number place
+      → said (unless o refused answer) ≡ outcome.refused number place ↔ outcomeSaid o ≡ outcome.refused number place
   unfolding outcomeSaid unless
   refused-exactly answer never o number place = (
     λ e. ap outcomeSaid (there o (told (unless o refused answer) (refused number place) (e ∙ sym (says number place)))),
@@ -81,31 +87,31 @@ module _ {A : Type 0} (said : A → List ℕ) (told : (a b : A) → said a ≡ s
       there (Refused n p) e = apart n p number place e
 
 pub claim-refused : (g : Given) (horizon : ℕ) (schedule : List ℕ) (number place : ℕ)
-    → claimSaid (claimAnswer g horizon schedule) ≡ say.refused number place ↔ outcomeSaid (checkSchedule g horizon schedule) ≡ say.refused number place
+    → claimSaid (claimAnswer g horizon schedule) ≡ outcome.refused number place ↔ outcomeSaid (checkSchedule (g .lists) horizon (length schedule)) ≡ outcome.refused number place
 unfolding claimAnswer claimSaid
 claim-refused g horizon schedule number place =
     refused-exactly claimSaid claim-said claims.Refused (λ n p m q e. cc) (λ n p. refl) (claim g schedule) (claim-not-refused g schedule)
-    (checkSchedule g horizon schedule) number place
+    (checkSchedule (g .lists) horizon (length schedule)) number place
 
 pub verdict-refused : (g : Given) (r : Record) (j number place : ℕ)
-    → verdictSaid (verdictAnswer g r j) ≡ say.refused number place ↔ outcomeSaid (checkVerdict g r j) ≡ say.refused number place
+    → verdictSaid (verdictAnswer g r j) ≡ outcome.refused number place ↔ outcomeSaid (checkVerdict g r j) ≡ outcome.refused number place
 unfolding verdictAnswer verdictSaid
 verdict-refused g r j number place =
-    refused-exactly verdictSaid verdict-said verdicts.Refused (λ n p m q e. cc) (λ n p. refl) (verdict g r j)
+    refused-exactly verdictSaid verdict-said verdicts.Refused (λ n p m q e. cc) (λ n p. refl) (verdict (g .lists) r j)
     (λ n p e. verdict-reads g r j (verdicts.Refused n p) .0 e) (checkVerdict g r j) number place
 
 pub witness-refused : (g : Given) (horizon : ℕ) (schedule : List ℕ) (j number place : ℕ)
-    → witnessSaid (witnessAnswer g horizon schedule j) ≡ say.refused number place ↔ outcomeSaid (checkWitness g horizon schedule j) ≡ say.refused number place
+    → witnessSaid (witnessAnswer g horizon schedule j) ≡ outcome.refused number place ↔ outcomeSaid (checkWitness (g .lists) horizon (length schedule) j) ≡ outcome.refused number place
 unfolding witnessAnswer witnessSaid
 witness-refused g horizon schedule j number place =
     refused-exactly witnessSaid witness-said witnesses.Refused (λ n p m q e. cc) (λ n p. refl) (witness g schedule j)
-    (λ n p e. witness-reads g schedule j (witnesses.Refused n p) .0 e) (checkWitness g horizon schedule j) number place
+    (λ n p e. witness-reads g schedule j (witnesses.Refused n p) .0 e) (checkWitness (g .lists) horizon (length schedule) j) number place
 
 pub response-refused : (g : Given) (horizon : ℕ) (schedule : List ℕ) (j number place : ℕ)
-    → outcomeSaid (checkWitness g horizon schedule j) ≡ say.refused number place → responseAnswer g horizon schedule j ≡ emptyPart
+    → outcomeSaid (checkWitness (g .lists) horizon (length schedule) j) ≡ outcome.refused number place → responseAnswer g horizon schedule j ≡ emptyPart
 unfolding responseAnswer outcomeSaid
 response-refused g horizon schedule j number place e =
-    unless-refused _ _ (checkWitness g horizon schedule j) number place (outcome-said (checkWitness g horizon schedule j) (Refused number place) e)
+    unless-refused _ _ (checkWitness (g .lists) horizon (length schedule) j) number place (outcome-said (checkWitness (g .lists) horizon (length schedule) j) (Refused number place) e)
 
 -- a step is the tick of the rules, or refused by its checks
 module _ (g : Given) (r : Record) where
@@ -117,27 +123,27 @@ module _ (g : Given) (r : Record) where
       go Done = refl
       go (Refused n p) = refl
 
-  pub step-refused : (number place : ℕ) → outcomeSaid (stepAnswer g r .outcome) ≡ say.refused number place → stepAnswer g r ≡ refusedStep number place
+  pub step-refused : (number place : ℕ) → outcomeSaid (stepAnswer g r .outcome) ≡ outcome.refused number place → stepAnswer g r ≡ refusedStep number place
   unfolding outcomeSaid stepAnswer
   step-refused number place e =
       unless-refused _ _ (checkStep g r) number place (sym step-checked ∙ outcome-said (stepAnswer g r .outcome) (Refused number place) e)
 
-  pub step-done : outcomeSaid (stepAnswer g r .outcome) ≡ say.done → stepAnswer g r ≡ stepped g r
+  pub step-done : outcomeSaid (stepAnswer g r .outcome) ≡ outcome.done → stepAnswer g r ≡ stepped g r
   unfolding outcomeSaid stepAnswer unless
   step-done e = rw (sym step-checked ∙ outcome-said (stepAnswer g r .outcome) Done e)
 
-  pub step-blank : (number place : ℕ) → outcomeSaid (stepAnswer g r .outcome) ≡ say.refused number place
+  pub step-blank : (number place : ℕ) → outcomeSaid (stepAnswer g r .outcome) ≡ outcome.refused number place
       → (stepAnswer g r .«record» ≡ blank) × (stepAnswer g r ≡ refusedStep number place)
   unfolding refusedStep
   step-blank number place e = let q = step-refused number place e in (ap (λ (s : Stepped). s .«record») q, q)
 
 -- a verdict is given exactly where the checks pass and it is the judgement
 judged-exactly : (g : Given) (r : Record) (j : ℕ) (v : Verdict) → ((number place : ℕ) → verdicts.Refused number place ≡ v → ⊥)
-    → verdictSaid (verdictAnswer g r j) ≡ verdictSaid v ↔ (outcomeSaid (checkVerdict g r j) ≡ say.done) × Judged g r j v
+    → verdictSaid (verdictAnswer g r j) ≡ verdictSaid v ↔ (outcomeSaid (checkVerdict g r j) ≡ outcome.done) × Judged g r j v
 unfolding verdictAnswer outcomeSaid
 judged-exactly g r j v never =
     Iff·trans (exactly verdictSaid verdict-said (verdictAnswer g r j) v)
-    (Iff·trans (answered verdicts.Refused (verdict g r j) v never (checkVerdict g r j)) (
+    (Iff·trans (answered verdicts.Refused (verdict (g .lists) r j) v never (checkVerdict g r j)) (
       λ w. (ap outcomeSaid (w .0), verdict-reads g r j v .0 (w .1)),
       λ w. (outcome-said (checkVerdict g r j) Done (w .0), verdict-reads g r j v .1 (w .1)),
     ))
@@ -148,7 +154,7 @@ module _ (g : Given) (r : Record) (j : ℕ) where
   stands s = (ap standingSaid, standing-said (standingAt r j) s)
 
   pub met-exactly : verdictSaid (verdictAnswer g r j) ≡ say.met
-      ↔ (outcomeSaid (checkVerdict g r j) ≡ say.done) × ((f : ℕ) × (standingSaid (standingAt r j) ≡ say.finishedAt f) × (f ≤ deadlineInstant g j))
+      ↔ (outcomeSaid (checkVerdict g r j) ≡ outcome.done) × ((f : ℕ) × (standingSaid (standingAt r j) ≡ say.finishedAt f) × (f ≤ deadlineInstant (g .lists) j))
   unfolding verdictSaid standingSaid
   met-exactly =
       Iff·trans (judged-exactly g r j verdicts.Met (λ n p e. let z : _≡_ {A = ℕ} 0 1 = cc in omega arith)) (
@@ -157,7 +163,7 @@ module _ (g : Given) (r : Record) (j : ℕ) where
       )
 
   pub ended-exactly : verdictSaid (verdictAnswer g r j) ≡ say.ended
-      ↔ (outcomeSaid (checkVerdict g r j) ≡ say.done) × ((e : ℕ) × (standingSaid (standingAt r j) ≡ say.endedIn e))
+      ↔ (outcomeSaid (checkVerdict g r j) ≡ outcome.done) × ((e : ℕ) × (standingSaid (standingAt r j) ≡ say.endedIn e))
   unfolding verdictSaid standingSaid
   ended-exactly =
       Iff·trans (judged-exactly g r j verdicts.Ended (λ n p e. let z : _≡_ {A = ℕ} 0 1 = cc in omega arith)) (
@@ -166,9 +172,9 @@ module _ (g : Given) (r : Record) (j : ℕ) where
       )
 
   pub late-exactly : verdictSaid (verdictAnswer g r j) ≡ say.late
-      ↔ (outcomeSaid (checkVerdict g r j) ≡ say.done)
-      × (((f : ℕ) × (standingSaid (standingAt r j) ≡ say.finishedAt f) × (deadlineInstant g j < f))
-      ⊎ ((standingSaid (standingAt r j) ≡ say.unfinished) × (deadlineInstant g j ≤ r .tick)))
+      ↔ (outcomeSaid (checkVerdict g r j) ≡ outcome.done)
+      × (((f : ℕ) × (standingSaid (standingAt r j) ≡ say.finishedAt f) × (deadlineInstant (g .lists) j < f))
+      ⊎ ((standingSaid (standingAt r j) ≡ say.unfinished) × (deadlineInstant (g .lists) j ≤ r .tick)))
   unfolding verdictSaid standingSaid
   late-exactly =
       Iff·trans (judged-exactly g r j verdicts.Late (λ n p e. let z : _≡_ {A = ℕ} 0 1 = cc in omega arith)) (
@@ -180,41 +186,45 @@ module _ (g : Given) (r : Record) (j : ℕ) where
 module _ (g : Given) (horizon : ℕ) (schedule : List ℕ) (j : ℕ) where
   empties : part g schedule j ≡ emptyPart → responseAnswer g horizon schedule j ≡ emptyPart
   unfolding responseAnswer
-  empties e = go (checkWitness g horizon schedule j)
+  empties e = go (checkWitness (g .lists) horizon (length schedule) j)
     where
       go : (o : Outcome) → unless o (λ number place. emptyPart) (part g schedule j) ≡ emptyPart
       go Done = unless-done _ _ Done refl ∙ e
       go (Refused n p) = unless-refused _ _ (Refused n p) n p refl
 
   pub response-illegal : (t : ℕ) → claimSaid (claimAnswer g horizon schedule) ≡ say.notLegal t → responseAnswer g horizon schedule j ≡ emptyPart
-  unfolding claimSaid claimAnswer part
+  unfolding claimSaid claimAnswer part claim
   response-illegal t h =
-      let e = answered claims.Refused (claim g schedule) (claims.NotLegal t) (λ n p e. let z : _≡_ {A = ℕ} 0 1 = cc in omega arith) (checkSchedule g horizon schedule) .0
+      let e = answered claims.Refused (claim g schedule) (claims.NotLegal t) (λ n p e. let z : _≡_ {A = ℕ} 0 1 = cc in omega arith) (checkSchedule (g .lists) horizon (length schedule)) .0
       (claim-said (claimAnswer g horizon schedule) (claims.NotLegal t) h) .1 in
-      empties (rw e)
+      empties (illegal (isLegal g schedule) e)
+    where
+      illegal : (b : Bool) → cond b claims.Legal (claims.NotLegal (legalLength g schedule)) ≡ claims.NotLegal t
+          → shownBy b (partTo (arrival (g .lists .jobs) j) schedule (standingAt (replayed g schedule) j)) ≡ emptyPart
+      illegal true e = let z : _≡_ {A = ℕ} 0 1 = cc in absurd (omega arith)
+      illegal false e = refl
 
   pub response-unfinished : ((f : ℕ) → standingSaid (standingAt (replayed g schedule) j) ≡ say.finishedAt f → ⊥) → responseAnswer g horizon schedule j ≡ emptyPart
   unfolding standingSaid part
-  response-unfinished never = empties (by-claim (claim g schedule) (none (standingAt (replayed g schedule) j) refl))
+  response-unfinished never = empties (by-claim (isLegal g schedule) (none (standingAt (replayed g schedule) j) refl))
     where
-      none : (s : Standing) → standingAt (replayed g schedule) j ≡ s → partTo (arrival (g .jobs) j) schedule s ≡ emptyPart
+      none : (s : Standing) → standingAt (replayed g schedule) j ≡ s → partTo (arrival (g .lists .jobs) j) schedule s ≡ emptyPart
       none standings.NotArrived q = refl
       none standings.Unfinished q = refl
       none (standings.Finished f) q = absurd (never f (ap standingSaid q))
       none (standings.Ended e) q = refl
 
-      by-claim : (c : Claim) → partTo (arrival (g .jobs) j) schedule (standingAt (replayed g schedule) j) ≡ emptyPart
-          → shownBy c (partTo (arrival (g .jobs) j) schedule (standingAt (replayed g schedule) j)) ≡ emptyPart
-      by-claim (claims.Refused n p) e = refl
-      by-claim (claims.NotLegal t) e = refl
-      by-claim claims.Legal e = e
+      by-claim : (b : Bool) → partTo (arrival (g .lists .jobs) j) schedule (standingAt (replayed g schedule) j) ≡ emptyPart
+          → shownBy b (partTo (arrival (g .lists .jobs) j) schedule (standingAt (replayed g schedule) j)) ≡ emptyPart
+      by-claim false e = refl
+      by-claim true e = e
 
 -- a fresh record, and a blank one
 module _ (tasks jobs : List ℕ) where
-  pub fresh-refused : (number place : ℕ) → outcomeSaid (freshAnswer tasks jobs .outcome) ≡ say.refused number place → freshAnswer tasks jobs .«record» ≡ blank
+  pub fresh-refused : (number place : ℕ) → outcomeSaid (freshAnswer tasks jobs .outcome) ≡ outcome.refused number place → freshAnswer tasks jobs .«record» ≡ blank
   unfolding freshAnswer ran outcomeSaid
-  fresh-refused number place e = unless-refused _ _ (checkLists tasks jobs) number place (outcome-said (checkLists tasks jobs) (Refused number place) e)
+  fresh-refused number place e = unless-refused _ _ (checkLists (lists tasks jobs)) number place (outcome-said (checkLists (lists tasks jobs)) (Refused number place) e)
 
-  pub fresh-done : outcomeSaid (freshAnswer tasks jobs .outcome) ≡ say.done → freshAnswer tasks jobs .«record» ≡ fresh jobs
+  pub fresh-done : outcomeSaid (freshAnswer tasks jobs .outcome) ≡ outcome.done → freshAnswer tasks jobs .«record» ≡ fresh jobs
   unfolding freshAnswer ran outcomeSaid
-  fresh-done e = unless-done _ _ (checkLists tasks jobs) (outcome-said (checkLists tasks jobs) Done e)
+  fresh-done e = unless-done _ _ (checkLists (lists tasks jobs)) (outcome-said (checkLists (lists tasks jobs)) Done e)

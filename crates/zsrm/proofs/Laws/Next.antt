@@ -1,8 +1,7 @@
 -- The records that the code builds place by place are the document's: the fresh one, and the one advanced by a tick.
 use Prim.Native.Nat.{_+_, _<_, suc, ℕ, _≤_}
-use mathlib.Core.Bool.{Bool, cond, false, true}
+use mathlib.Core.Bool.{Bool, cond, true}
 use mathlib.Core.List.{List}
-use mathlib.Core.Logic.{inl, inr, _⊎_}
 use mathlib.Core.Path.{ap, ap₂, refl, sym, _∙_, _≡_}
 use native.Mathlib.Numerals.{add-one}
 use native.Mathlib.Omega.{arith}
@@ -12,20 +11,22 @@ use borrow.Author.Tests.{le-ltb, lt-ltb, ltb-false, ltb-true}
 use Rattle.bits.specs.Below.{bit, listFrom}
 use Rattle.bits.proofs.Arrays.{Written, written-all, written-none}
 use Rattle.bits.proofs.Below.{list-same}
-use Rattle.bits.proofs.Bools.{clash, either, fails}
 use Rattle.zsrm.specs.declared.record.Place.{Place}
 use Rattle.zsrm.specs.declared.record.Record.{Record}
 use Rattle.zsrm.specs.declared.record.Standing.{Standing}
 use Rattle.zsrm.specs.declared.record.Standing.the-variants.{Ended, Finished, NotArrived, Unfinished}
-use Rattle.zsrm.specs.declared.tables.Job.{Job}
-use Rattle.zsrm.specs.Code.Fields.{jobAt}
-use Rattle.zsrm.specs.Legal.{dispatched}
+use Rattle.tables.specs.declared.fields.Job.{Job}
+use Rattle.tables.specs.Fields.{jobAt}
+use Rattle.zsrm.specs.Legal.{candidateOrIdle}
 use Rattle.zsrm.specs.Code.Next.{nextAt, nextPlace, nextRecord, nextStanding}
 use Rattle.zsrm.specs.Record.{arrived, arriving, blank, consistent, doneAt, empty, fresh, freshPlace, opening, placeAt, standingAt}
-use Rattle.zsrm.specs.Tables.{Given, arrival, execution, jobCount}
+use Rattle.zsrm.specs.Given.{Given}
+use Rattle.tables.specs.Tables.{arrival, execution, jobCount}
 use Rattle.zsrm.specs.Tick.{advanced, alive, doneAfter, endedWord, ends, finishes, goesOn, placeAfter, standingAfter, unfinished}
-use Rattle.zsrm.proofs.Laws.Consistent.{OnlyAlive, beyond-waits, done-idle, only-alive}
+use Rattle.zsrm.proofs.Laws.Consistent.{beyond-waits}
 use Rattle.zsrm.proofs.Laws.View.{jobWord-bit}
+use Rattle.zsrm.proofs.Laws.Tick.{done-dead}
+use Rattle.bits.proofs.Bools.{by-cond}
 
 -- a record is its tick and its places
 pub same-record : (r s : Record) → r .tick ≡ s .tick → r .places ≡ s .places → r ≡ s
@@ -62,17 +63,17 @@ next-made jobs r e ended out j w m =
     (written-all empty (nextAt jobs r e ended) (r .places) (out .places) 64 j (w .1) (λ k a b. rw (le-ltb k (jobCount jobs) (omega arith))))
 
 -- the record after a tick whose entry may run is the one that document 01 advances to
-module _ (g : Given) (r : Record) (e : ℕ) (few : jobCount (g .jobs) ≤ 64) (sound : consistent g r ≡ true) (may : dispatched g r e ≡ true) where
+module _ (g : Given) (r : Record) (e : ℕ) (few : jobCount (g .lists .jobs) ≤ 64) (sound : consistent g r ≡ true) (may : candidateOrIdle g r e ≡ true) where
   -- the place of a job
-  job-next : (j : ℕ) → j < jobCount (g .jobs)
-      → nextPlace (r .tick) (eqb e j) (bit (endedWord g r e) j) (arrival (g .jobs) j) (execution (g .jobs) j) (placeAt r j) ≡ placeAfter g r e j
+  job-next : (j : ℕ) → j < jobCount (g .lists .jobs)
+      → nextPlace (r .tick) (eqb e j) (bit (endedWord g r e) j) (arrival (g .lists .jobs) j) (execution (g .lists .jobs) j) (placeAt r j) ≡ placeAfter g r e j
   unfolding placeAfter doneAfter standingAfter goesOn finishes opening arriving arrived doneAt standingAt endedWord
   job-next j l =
       ap (λ (s : Standing). let p : Place = record { done = doneAt r j + cond (eqb e j) 1 0; standing = s } in p)
-      (go (standingAt r j) (lt-ltb j (jobCount (g .jobs)) l) (jobWord-bit (g .jobs) (ends g r e) j few l))
+      (go (standingAt r j) (lt-ltb j (jobCount (g .lists .jobs)) l) (jobWord-bit (g .lists .jobs) (ends g r e) j few l))
     where
-      go : (s : Standing) → ltb j (jobCount (g .jobs)) ≡ true → bit (endedWord g r e) j ≡ ends g r e j
-          → nextStanding (r .tick) (eqb e j) (bit (endedWord g r e) j) (arrival (g .jobs) j) (execution (g .jobs) j) (doneAt r j + cond (eqb e j) 1 0) s
+      go : (s : Standing) → ltb j (jobCount (g .lists .jobs)) ≡ true → bit (endedWord g r e) j ≡ ends g r e j
+          → nextStanding (r .tick) (eqb e j) (bit (endedWord g r e) j) (arrival (g .lists .jobs) j) (execution (g .lists .jobs) j) (doneAt r j + cond (eqb e j) 1 0) s
           ≡ standingAfter g r e j s
       go NotArrived q w = rw (q, add-one)
       go Unfinished q w = rw (w, add-one)
@@ -80,21 +81,16 @@ module _ (g : Given) (r : Record) (e : ℕ) (few : jobCount (g .jobs) ≤ 64) (s
       go (Ended t) q w = refl
 
   -- a place beyond the jobs stays: nothing there is alive, so nothing there runs
-  beyond-next : (j : ℕ) → jobCount (g .jobs) ≤ j → j < 64 → placeAt r j ≡ placeAfter g r e j
-  unfolding placeAfter standingAfter opening arrived alive OnlyAlive standingAt doneAt
+  beyond-next : (j : ℕ) → jobCount (g .lists .jobs) ≤ j → j < 64 → placeAt r j ≡ placeAfter g r e j
+  unfolding placeAfter standingAfter opening arrived alive standingAt doneAt
   beyond-next j m l =
       let waits = beyond-waits g r sound j m l in
-      let rests : eqb e j ≡ false = fails (eqb e j) (λ q. clash (only-alive g r e may j l q) (ap unfinished waits)) in
-      ap₂ (λ (d : ℕ) (s : Standing). let p : Place = record { done = d; standing = s } in p) (sym (done-idle g r e j rests))
-      (waits ∙ sym (ap (standingAfter g r e j) waits ∙ rw (le-ltb j (jobCount (g .jobs)) m)))
+      ap₂ (λ (d : ℕ) (s : Standing). let p : Place = record { done = d; standing = s } in p) (sym (done-dead g r e may j l (ap unfinished waits)))
+      (waits ∙ sym (ap (standingAfter g r e j) waits ∙ rw (le-ltb j (jobCount (g .lists .jobs)) m)))
 
-  pub next-advanced : nextRecord (g .jobs) r e (endedWord g r e) ≡ advanced g r e
+  pub next-advanced : nextRecord (g .lists .jobs) r e (endedWord g r e) ≡ advanced g r e
   unfolding nextRecord nextAt advanced
   next-advanced =
       same-record _ (record { tick = suc (r .tick); places = listFrom 0 64 (placeAfter g r e) }) (add-one (r .tick))
-      (list-same 64 (nextAt (g .jobs) r e (endedWord g r e)) (placeAfter g r e) (λ j l. go j l (either (ltb j (jobCount (g .jobs))))))
-    where
-      go : (j : ℕ) → j < 64 → (ltb j (jobCount (g .jobs)) ≡ true) ⊎ (ltb j (jobCount (g .jobs)) ≡ false)
-          → nextAt (g .jobs) r e (endedWord g r e) j ≡ placeAfter g r e j
-      go j l (inl q) = rw q (job-next j (ltb-true j (jobCount (g .jobs)) q))
-      go j l (inr q) = rw q (beyond-next j (ltb-false j (jobCount (g .jobs)) q) l)
+      (list-same 64 (nextAt (g .lists .jobs) r e (endedWord g r e)) (placeAfter g r e) (λ j l.
+      by-cond (λ p. p ≡ placeAfter g r e j) (ltb j (jobCount (g .lists .jobs))) _ _ (λ q. job-next j (ltb-true _ _ q)) (λ q. beyond-next j (ltb-false _ _ q) l)))

@@ -1,13 +1,24 @@
--- What stands at a place of the fresh record, and of an advanced one. Only these lemmas open `fresh` and `advanced`.
-use Prim.Native.Nat.{_<_, suc, ℕ}
+-- What stands at a place of the fresh record, and of an advanced one, and as what a place opens. Only these lemmas open `fresh` and
+-- `advanced`.
+use Prim.Native.Nat.{_<_, suc, ℕ, _≤_}
+use mathlib.Core.Bool.{true, false}
 use mathlib.Core.List.{List}
-use mathlib.Core.Path.{ap, refl, _≡_}
+use mathlib.Core.Path.{ap, refl, _≡_, _∙_}
+use mathlib.Core.Logic.{_↔_, _≢_}
+use native.Mathlib.Omega.{arith}
+use lib.Dec.{eqb}
+use borrow.Author.Tests.{eqb-false, eqb-true, leb-false, lt-ltb}
 use Rattle.bits.proofs.Below.{getD-list}
 use Rattle.zsrm.specs.declared.record.Place.{Place}
 use Rattle.zsrm.specs.declared.record.Record.{Record}
-use Rattle.zsrm.specs.Record.{doneAt, empty, fresh, freshPlace, opening, placeAt, standingAt}
-use Rattle.zsrm.specs.Tables.{Given}
-use Rattle.zsrm.specs.Tick.{advanced, doneAfter, placeAfter, standingAfter}
+use Rattle.zsrm.specs.Record.{doneAt, empty, fresh, freshPlace, opening, placeAt, standingAt, arrived, arriving}
+use Rattle.zsrm.specs.Given.{Given}
+use Rattle.zsrm.specs.Tick.{advanced, doneAfter, placeAfter, standingAfter, alive, goesOn, unfinished}
+use Rattle.bits.proofs.Bools.{and-false, by-cond, clash, fails}
+use Rattle.bits.proofs.Readings.{and-reads, le-reads, lt-reads}
+use Rattle.tables.specs.Tables.{arrival, execution, jobCount}
+use Rattle.zsrm.specs.declared.record.Standing.{Standing}
+use Rattle.zsrm.specs.declared.record.Standing.the-variants.{Ended, Finished, NotArrived, Unfinished}
 
 pub tick-fresh : (jobs : List ℕ) → fresh jobs .tick ≡ 0
 unfolding fresh
@@ -21,6 +32,16 @@ pub standing-fresh : (jobs : List ℕ) (j : ℕ) → j < 64 → standingAt (fres
 unfolding standingAt placeAt fresh freshPlace
 standing-fresh jobs j h = ap (λ (x : Place). x .standing) (getD-list 64 (freshPlace jobs) j empty h)
 
+pub alive-unfinished : (r : Record) (j : ℕ) → alive r j ≡ true → standingAt r j ≡ Unfinished
+unfolding alive
+alive-unfinished r j = go (standingAt r j)
+  where
+    go : (s : Standing) → unfinished s ≡ true → s ≡ Unfinished
+    go NotArrived u = clash u refl
+    go Unfinished u = refl
+    go (Finished f) u = clash u refl
+    go (Ended e) u = clash u refl
+
 module _ (g : Given) (r : Record) (e : ℕ) where
   pub tick-advanced : advanced g r e .tick ≡ suc (r .tick)
   unfolding advanced
@@ -33,3 +54,30 @@ module _ (g : Given) (r : Record) (e : ℕ) where
   pub standing-advanced : (j : ℕ) → j < 64 → standingAt (advanced g r e) j ≡ standingAfter g r e j (standingAt r j)
   unfolding standingAt placeAt advanced placeAfter
   standing-advanced j h = ap (λ (x : Place). x .standing) (getD-list 64 (placeAfter g r e) j empty h)
+
+  -- of a job alive in the tick
+  pub standing-alive : (j : ℕ) → j < 64 → alive r j ≡ true → standingAt (advanced g r e) j ≡ goesOn g r e j
+  unfolding standingAfter
+  standing-alive j h a = standing-advanced j h ∙ rw (alive-unfinished r j a)
+
+module _ (jobs : List ℕ) (t j : ℕ) where
+  -- the place is a job's, whose arrival does not exceed t; or it is none's, or its arrival does
+  pub arrived-reads : arrived jobs t j ≡ true ↔ (j < jobCount jobs) × (arrival jobs j ≤ t)
+  unfolding arrived
+  arrived-reads = and-reads (lt-reads _ _) (le-reads _ _)
+
+  pub away-reads : arrived jobs t j ≡ false ↔ (j < jobCount jobs → t < arrival jobs j)
+  unfolding arrived
+  away-reads =
+      (λ h l. leb-false _ _ (and-false (lt-ltb _ _ l) h), λ w. fails _ (λ h. let a = arrived-reads .0 h in omega (arith, w (a .0))))
+
+  -- a place at which nothing has run: the job is finished at its arrival, or unfinished, or there is none yet
+  pub opens : (P : Standing → Type 0) → (j < jobCount jobs → arrival jobs j ≤ t → execution jobs j ≡ 0 → P (Finished (arrival jobs j)))
+      → (j < jobCount jobs → arrival jobs j ≤ t → execution jobs j ≢ 0 → P Unfinished) → ((j < jobCount jobs → t < arrival jobs j) → P NotArrived)
+      → P (opening jobs t j)
+  unfolding opening arriving
+  opens P finished running waiting =
+      by-cond P (arrived jobs t j) _ _
+      (λ h. let a = arrived-reads .0 h in
+      by-cond P (eqb (execution jobs j) 0) _ _ (λ c. finished (a .0) (a .1) (eqb-true _ _ c)) (λ c. running (a .0) (a .1) (eqb-false _ _ c)))
+      (λ h. waiting (away-reads .0 h))

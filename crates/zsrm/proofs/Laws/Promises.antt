@@ -9,178 +9,169 @@ use native.Mathlib.Numerals.{add-one}
 use native.Mathlib.Omega.{arith}
 use lib.ListN.{drop, getD, length, length-drop, take}
 use lib.Seq.{getD-drop, getD-take, length-take-le}
-use borrow.Author.Tests.{leb-true, lt-ltb, ltb-true, ne-eqb}
-use Rattle.zsrm.specs.declared.answers.Outcome.{Outcome}
-use Rattle.zsrm.specs.declared.answers.Outcome.the-variants.{Done, Refused}
+use borrow.Author.Tests.{eq-eqb, leb-true, lt-ltb, ltb-true, ne-eqb}
+use Rattle.tables.specs.declared.outcome.Outcome.the-variants.{Done, Refused}
 use Rattle.zsrm.specs.declared.answers.Stepped.{Stepped}
 use Rattle.zsrm.specs.declared.record.Record.{Record}
 use Rattle.zsrm.specs.declared.record.Standing.the-variants.{Finished}
-use Rattle.zsrm.specs.Answers.{checkGiven, checkSchedule, checkStep, checkVerdict, checkWitness, claimAnswer, freshAnswer, ran, responseAnswer, runAnswer, runSchedule, stepAnswer, stepped, stepsFrom, unless, verdictAnswer, witnessAnswer}
-use Rattle.zsrm.specs.Said.{claimSaid, outcomeSaid, verdictSaid, witnessSaid}
-use Rattle.zsrm.specs.Said as say
+use Rattle.zsrm.specs.Answers.{checkSchedule, checkStep, checkWitness, claimAnswer, freshAnswer, ran, responseAnswer, runAnswer, runSchedule, stepAnswer, stepped, stepsFrom, verdictAnswer, witnessAnswer}
+use Rattle.tables.specs.Refusals.{unless, ascending, before, check13, check2, check3, check4, checkLists, checkTasks, outside, refuse}
+use Rattle.zsrm.specs.Said.{claimSaid, verdictSaid, witnessSaid}
+use Rattle.tables.specs.Said.{outcomeSaid}
 use Rattle.zsrm.specs.Code.Claims.{FitsIn}
-use Rattle.zsrm.specs.Legal.{claim}
-use Rattle.zsrm.specs.Record.{blank, consistent, fresh, standingAt}
-use Rattle.zsrm.specs.Refusals.{ascending, before, check11, check12, check13, check2, check3, check4, checkLists, checkTasks, outside, refuse}
-use Rattle.zsrm.specs.Run.{entries, entriesBy, final, replay, replayed, runEntries, runRecord}
-use Rattle.zsrm.specs.Tables.{Given, arrival, criticality, deadline, idle, jobCount, nominal, overload, period, priority, taskCount, zeroSlack}
+use Rattle.zsrm.specs.Legal.{claim, isLegal, legalLength}
+use Rattle.zsrm.specs.Record.{blank, consistent, fresh, standingAt, check11, check12}
+use Rattle.zsrm.specs.Run.{entriesBy, replay, replayed, runEntries, runRecord, finalBy}
+use Rattle.zsrm.specs.Given.{Given}
+use Rattle.tables.specs.Tables.{arrival, criticality, deadline, idle, jobCount, nominal, overload, period, priority, taskCount, offset}
 use Rattle.zsrm.specs.Tick.{advanced, choice}
 use Rattle.zsrm.specs.Topmost.{Topmost}
-use Rattle.zsrm.specs.Verdict.{Part, emptyPart, missed, part, verdict, witness}
-use Rattle.zsrm.proofs.Laws.Accepted.{few-jobs}
-use Rattle.zsrm.proofs.Laws.Answers.{accepted, accepted-lists, is-legal, unless-done, unless-refused}
+use Rattle.zsrm.specs.Verdict.{Part, missed, part, verdict, witness}
+use Rattle.zsrm.proofs.Laws.Answers.{accepted, is-legal, run-given, verdict-answered, whole-legal}
 use Rattle.zsrm.proofs.Laws.Consistent.{fresh-consistent}
 use Rattle.zsrm.proofs.Laws.Exactly.{answered}
 use Rattle.zsrm.proofs.Laws.Going.{Going, going-more, going-none, steps-entry}
 use Rattle.zsrm.proofs.Laws.Places.{tick-fresh}
-use Rattle.zsrm.proofs.Laws.Refusals.{before-first}
-use Rattle.zsrm.proofs.Laws.Said.{claim-said, outcome-said, verdict-said, witness-said}
+use Rattle.tables.proofs.Laws.Refusals.{before-first, unless-done, unless-refused}
+use Rattle.zsrm.proofs.Laws.Said.{verdict-said, witness-said}
 use Rattle.zsrm.proofs.Laws.Verdicts.{part-fits, replayed-consistent, witnessed}
 use Rattle.zsrm.proofs.Readings.{missed-reads, witness-reads}
+use Rattle.zsrm.proofs.Laws.Run.{choice-may}
+use Rattle.tables.proofs.Laws.Accepted.{lists-few}
+use Rattle.tables.proofs.Laws.Said.{outcome-said}
+use Rattle.zsrm.specs.Said as say
+use Rattle.tables.specs.Said as outcome
 use Rattle.zsrm.specs.declared.answers.Claim.the-variants as claims
 use Rattle.zsrm.specs.declared.answers.Verdict.the-variants as verdicts
 use Rattle.zsrm.specs.declared.answers.Witness.the-variants as witnesses
 
 -- a step that meets its checks is taken
-step-taken : (g : Given) (r : Record) → checkGiven g ≡ Done → consistent g r ≡ true → r .tick < 16384 → stepAnswer g r ≡ stepped g r
+step-taken : (g : Given) (r : Record) → checkLists (g .lists) ≡ Done → consistent g r ≡ true → r .tick < 16384 → stepAnswer g r ≡ stepped g r
 unfolding stepAnswer checkStep check11 check12 refuse before unless
 step-taken g r ok sound time = rw (ok, sound, ne-eqb (r .tick) 16384 (λ e. omega arith))
 
 -- so is each of a run's
-module _ (g : Given) (ok : checkGiven g ≡ Done) where
-  going : (n : ℕ) → n ≤ 16384 → Going g (fresh (g .jobs)) (stepsFrom g (fresh (g .jobs)) n) n
+module _ (g : Given) (ok : checkLists (g .lists) ≡ Done) where
+  going : (n : ℕ) → n ≤ 16384 → Going g (choice g) (fresh (g .lists .jobs)) (stepsFrom g (fresh (g .lists .jobs)) n) n
   unfolding stepsFrom
-  going zero b = going-none g (fresh (g .jobs)) (fresh-consistent g)
+  going zero b = going-none g (choice g) (fresh (g .lists .jobs)) (fresh-consistent g)
   going (suc n) b =
       let w = going n (omega arith) in
-      let t = tick-fresh (g .jobs) in
-      let r = stepsFrom g (fresh (g .jobs)) n in
+      let t = tick-fresh (g .lists .jobs) in
+      let r = stepsFrom g (fresh (g .lists .jobs)) n in
       let s = steps-entry g r (stepAnswer g r) (step-taken g r ok (w .sound) (omega (arith, w .time))) in
-      rw add-one at (going-more g (fresh (g .jobs)) r (stepAnswer g r .«record») n w (omega arith) (s .1))
+      rw add-one at (going-more g (choice g) (fresh (g .lists .jobs)) r (stepAnswer g r .«record») n w (omega arith) (choice-may g r) (s .1))
 
--- the entry that our run takes in tick t
-getD-entries : (g : Given) (r : Record) (n t : ℕ) → t < n → getD (entries g r n) t idle ≡ choice g (final g r t)
-unfolding entries final entriesBy replay
-getD-entries g r zero t l = absurd (not-suc-le-zero l)
-getD-entries g r (suc n) zero l = refl
-getD-entries g r (suc n) (suc t) l = getD-entries g (advanced g r (choice g r)) n t (omega arith)
+-- the entry that a run takes in tick t
+getD-entries : (g : Given) (pick : Record → ℕ) (r : Record) (n t : ℕ) → t < n → getD (entriesBy g pick r n) t idle ≡ pick (finalBy g pick r t)
+unfolding finalBy entriesBy replay
+getD-entries g pick r zero t l = absurd (not-suc-le-zero l)
+getD-entries g pick r (suc n) zero l = refl
+getD-entries g pick r (suc n) (suc t) l = getD-entries g pick (advanced g r (pick r)) n t (omega arith)
 
 -- our run, where nothing is refused
-pub run-checked : (g : Given) (horizon : ℕ) (lent : List ℕ) → outcomeSaid (runAnswer g horizon lent .outcome) ≡ say.done → checkSchedule g horizon lent ≡ Done
+pub run-checked : (g : Given) (horizon : ℕ) (lent : List ℕ) → outcomeSaid (runAnswer g horizon lent .outcome) ≡ outcome.done → checkSchedule (g .lists) horizon (length lent) ≡ Done
 unfolding runAnswer ran outcomeSaid
-run-checked g horizon lent done = outcome-said (checkSchedule g horizon lent) Done done
+run-checked g horizon lent done = outcome-said (checkSchedule (g .lists) horizon (length lent)) Done done
 
-pub run-refused-keeps : (g : Given) (horizon : ℕ) (lent : List ℕ) (number place : ℕ) → outcomeSaid (runAnswer g horizon lent .outcome) ≡ say.refused number place
+pub run-refused-keeps : (g : Given) (horizon : ℕ) (lent : List ℕ) (number place : ℕ) → outcomeSaid (runAnswer g horizon lent .outcome) ≡ outcome.refused number place
     → (runSchedule g horizon lent ≡ lent) × (runAnswer g horizon lent .«record» ≡ blank)
 unfolding runAnswer runSchedule ran outcomeSaid
 run-refused-keeps g horizon lent number place says =
-    let e = outcome-said (checkSchedule g horizon lent) (Refused number place) says in
+    let e = outcome-said (checkSchedule (g .lists) horizon (length lent)) (Refused number place) says in
     (unless-refused _ _ _ number place e, unless-refused _ _ _ number place e)
 
-module _ (g : Given) (horizon : ℕ) (lent : List ℕ) (ok : checkSchedule g horizon lent ≡ Done) where
-  ran-record : runAnswer g horizon lent .«record» ≡ final g (fresh (g .jobs)) horizon
-  unfolding runAnswer ran runRecord
-  ran-record = unless-done _ _ (checkSchedule g horizon lent) ok
-
-  ran-schedule : runSchedule g horizon lent ≡ entries g (fresh (g .jobs)) horizon
-  unfolding runSchedule runEntries
-  ran-schedule = unless-done _ _ (checkSchedule g horizon lent) ok
-
-  fresh-record : freshAnswer (g .tasks) (g .jobs) .«record» ≡ fresh (g .jobs)
+module _ (g : Given) (horizon : ℕ) (lent : List ℕ) (ok : checkSchedule (g .lists) horizon (length lent) ≡ Done) where
+  fresh-record : freshAnswer (g .lists .tasks) (g .lists .jobs) .«record» ≡ fresh (g .lists .jobs)
   unfolding freshAnswer ran
-  fresh-record = unless-done _ _ (checkLists (g .tasks) (g .jobs)) (accepted-lists g horizon lent (accepted g horizon lent ok))
+  fresh-record = unless-done _ _ (checkLists (g .lists)) (accepted (g .lists) horizon (length lent) ok .lists)
 
   pub ran-replayed : runAnswer g horizon lent .«record» ≡ replayed g (runSchedule g horizon lent)
-  unfolding replayed final
-  ran-replayed = ran-record ∙ ap (replay g (fresh (g .jobs))) (sym ran-schedule)
+  unfolding replayed finalBy runRecord runEntries
+  ran-replayed = let w = run-given g horizon lent ok in w .0 ∙ ap (replay g (fresh (g .lists .jobs))) (sym (w .1))
 
   pub ran-consistent : consistent g (runAnswer g horizon lent .«record») ≡ true
+  unfolding runRecord
   ran-consistent =
-      let a = accepted g horizon lent ok in
+      let a = accepted (g .lists) horizon (length lent) ok in
       let w = going g (a .lists) horizon (a .bounded) in
-      ap (consistent g) (ran-record ∙ sym (w .is)) ∙ w .sound
+      ap (consistent g) (run-given g horizon lent ok .0 ∙ sym (w .is)) ∙ w .sound
 
-  pub ran-steps : runAnswer g horizon lent .«record» ≡ stepsFrom g (freshAnswer (g .tasks) (g .jobs) .«record») horizon
+  pub ran-steps : runAnswer g horizon lent .«record» ≡ stepsFrom g (freshAnswer (g .lists .tasks) (g .lists .jobs) .«record») horizon
+  unfolding runRecord
   ran-steps =
-      let a = accepted g horizon lent ok in
-      rw fresh-record (ran-record ∙ sym (going g (a .lists) horizon (a .bounded) .is))
+      let a = accepted (g .lists) horizon (length lent) ok in
+      rw fresh-record (run-given g horizon lent ok .0 ∙ sym (going g (a .lists) horizon (a .bounded) .is))
 
   pub ran-step : (t : ℕ) → t < horizon
-      → stepAnswer g (stepsFrom g (freshAnswer (g .tasks) (g .jobs) .«record») t) ≡ stepped g (final g (fresh (g .jobs)) t)
+      → stepAnswer g (stepsFrom g (freshAnswer (g .lists .tasks) (g .lists .jobs) .«record») t) ≡ stepped g (finalBy g (choice g) (fresh (g .lists .jobs)) t)
   ran-step t l =
-      let a = accepted g horizon lent ok in
+      let a = accepted (g .lists) horizon (length lent) ok in
       let w = going g (a .lists) t (omega arith) in
-      let z = tick-fresh (g .jobs) in
+      let z = tick-fresh (g .lists .jobs) in
       rw fresh-record (step-taken g _ (a .lists) (w .sound) (omega (arith, w .time)) ∙ ap (stepped g) (w .is))
 
-  pub ran-step-done : (t : ℕ) → t < horizon → outcomeSaid (stepAnswer g (stepsFrom g (freshAnswer (g .tasks) (g .jobs) .«record») t) .outcome) ≡ say.done
+  pub ran-step-done : (t : ℕ) → t < horizon → outcomeSaid (stepAnswer g (stepsFrom g (freshAnswer (g .lists .tasks) (g .lists .jobs) .«record») t) .outcome) ≡ outcome.done
   unfolding stepped outcomeSaid
   ran-step-done t l = ap (λ (s : Stepped). outcomeSaid (s .outcome)) (ran-step t l)
 
   pub ran-entry : (t : ℕ) → t < horizon
-      → getD (runSchedule g horizon lent) t idle ≡ stepAnswer g (stepsFrom g (freshAnswer (g .tasks) (g .jobs) .«record») t) .entry
-  unfolding stepped
+      → getD (runSchedule g horizon lent) t idle ≡ stepAnswer g (stepsFrom g (freshAnswer (g .lists .tasks) (g .lists .jobs) .«record») t) .entry
+  unfolding stepped runEntries
   ran-entry t l =
-      ap (λ (es : List ℕ). getD es t idle) ran-schedule ∙ getD-entries g (fresh (g .jobs)) horizon t l
+      ap (λ (es : List ℕ). getD es t idle) (run-given g horizon lent ok .1) ∙ getD-entries g (choice g) (fresh (g .lists .jobs)) horizon t l
       ∙ ap (λ (s : Stepped). s .entry) (sym (ran-step t l))
 
 -- a legal schedule was accepted, and its verdicts are not refused
 module _ (g : Given) (horizon : ℕ) (schedule : List ℕ) (legal : claimSaid (claimAnswer g horizon schedule) ≡ say.legal) where
-  checked : checkSchedule g horizon schedule ≡ Done
-  unfolding claimAnswer claimSaid
-  checked =
-      answered claims.Refused (claim g schedule) claims.Legal (λ n p e. let z : _≡_ {A = ℕ} 0 1 = cc in omega arith) (checkSchedule g horizon schedule) .0
-      (claim-said (claimAnswer g horizon schedule) claims.Legal legal) .0
-
-  module _ (j : ℕ) (l : j < jobCount (g .jobs)) where
-    checked-job : checkWitness g horizon schedule j ≡ Done
+  module _ (j : ℕ) (l : j < jobCount (g .lists .jobs)) where
+    checked-job : checkWitness (g .lists) horizon (length schedule) j ≡ Done
     unfolding checkWitness check13 refuse before
-    checked-job = rw (checked, lt-ltb j (jobCount (g .jobs)) l)
+    checked-job = rw (is-legal g horizon schedule legal .checked, lt-ltb j (jobCount (g .lists .jobs)) l)
 
-    verdict-taken : verdictAnswer g (replayed g schedule) j ≡ verdict g (replayed g schedule) j
-    unfolding verdictAnswer checkVerdict check11 check13 refuse before unless
-    verdict-taken =
+    taken : verdictAnswer g (replayed g schedule) j ≡ verdict (g .lists) (replayed g schedule) j
+    taken =
         let c = is-legal g horizon schedule legal in
         let a = c .input in
-        rw (a .lists, replayed-consistent g schedule (omega arith) (c .legal), lt-ltb j (jobCount (g .jobs)) l)
+        verdict-answered g (a .lists) (replayed g schedule) (replayed-consistent g schedule (omega arith) (c .legal)) j l
 
     witness-taken : witnessAnswer g horizon schedule j ≡ witness g schedule j
     unfolding witnessAnswer
-    witness-taken = unless-done _ _ (checkWitness g horizon schedule j) checked-job
+    witness-taken = unless-done _ _ (checkWitness (g .lists) horizon (length schedule) j) checked-job
 
     -- a job that is judged met is not missed
     pub met-not-missed : verdictSaid (verdictAnswer g (replayed g schedule) j) ≡ say.met → witnessSaid (witnessAnswer g horizon schedule j) ≡ say.notMissed
     unfolding verdictSaid witnessSaid
     met-not-missed h =
-        let met : verdict g (replayed g schedule) j ≡ verdicts.Met = sym verdict-taken ∙ verdict-said (verdictAnswer g (replayed g schedule) j) verdicts.Met h in
-        ap witnessSaid (witness-taken ∙ witness-reads g schedule j witnesses.NotMissed .1 (is-legal g horizon schedule legal .legal, ap missed met))
+        let met : verdict (g .lists) (replayed g schedule) j ≡ verdicts.Met = sym taken ∙ verdict-said (verdictAnswer g (replayed g schedule) j) verdicts.Met h in
+        ap witnessSaid (witness-taken ∙ witness-reads g schedule j witnesses.NotMissed .1 (whole-legal g schedule .1 (is-legal g horizon schedule legal .legal), ap missed met))
 
     -- the part that is shown of a finished job
     shown : (f : ℕ) → standingAt (replayed g schedule) j ≡ Finished f
-        → responseAnswer g horizon schedule j ≡ record { from = arrival (g .jobs) j; entries = take (f - arrival (g .jobs) j) (drop (arrival (g .jobs) j) schedule) }
-    unfolding responseAnswer part
-    shown f q = unless-done _ _ (checkWitness g horizon schedule j) checked-job ∙ rw (is-legal g horizon schedule legal .legal, q)
+        → responseAnswer g horizon schedule j ≡ record { from = arrival (g .lists .jobs) j; entries = take (f - arrival (g .lists .jobs) j) (drop (arrival (g .lists .jobs) j) schedule) }
+    unfolding responseAnswer part isLegal legalLength
+    shown f q = unless-done _ _ (checkWitness (g .lists) horizon (length schedule) j) checked-job ∙ rw (eq-eqb _ _ (is-legal g horizon schedule legal .legal), q)
 
-    pub shown-from : (f : ℕ) → standingAt (replayed g schedule) j ≡ Finished f → responseAnswer g horizon schedule j .from ≡ arrival (g .jobs) j
+    pub shown-from : (f : ℕ) → standingAt (replayed g schedule) j ≡ Finished f → responseAnswer g horizon schedule j .from ≡ arrival (g .lists .jobs) j
     shown-from f q = ap (λ (p : Part). p .from) (shown f q)
 
     pub shown-length : (f : ℕ) → standingAt (replayed g schedule) j ≡ Finished f
-        → length (responseAnswer g horizon schedule j .entries) ≡ f - arrival (g .jobs) j
+        → length (responseAnswer g horizon schedule j .entries) ≡ f - arrival (g .lists .jobs) j
     shown-length f q =
         let c = is-legal g horizon schedule legal in
         let a = c .input in
-        let few = few-jobs (g .tasks) (g .jobs) (a .jobs) in
-        let w : FitsIn (arrival (g .jobs) j) schedule (Finished f) =
-        subst (FitsIn (arrival (g .jobs) j) schedule) q (part-fits g schedule j (omega arith) (omega arith) (c .legal)) in
+        let few = lists-few (g .lists) (a .lists) in
+        let w : FitsIn (arrival (g .lists .jobs) j) schedule (Finished f) =
+        subst (FitsIn (arrival (g .lists .jobs) j) schedule) q (part-fits g schedule j (omega arith) (omega arith) (c .legal)) in
         ap (λ (p : Part). length (p .entries)) (shown f q)
-        ∙ length-take-le (f - arrival (g .jobs) j) (drop (arrival (g .jobs) j) schedule) (simp length-drop (omega (arith, w .0, w .1)))
+        ∙ length-take-le (f - arrival (g .lists .jobs) j) (drop (arrival (g .lists .jobs) j) schedule) (simp length-drop (omega (arith, w .0, w .1)))
 
     pub shown-entries : (f : ℕ) → standingAt (replayed g schedule) j ≡ Finished f → (i : ℕ) → i < length (responseAnswer g horizon schedule j .entries)
-        → getD (responseAnswer g horizon schedule j .entries) i idle ≡ getD schedule (arrival (g .jobs) j + i) idle
+        → getD (responseAnswer g horizon schedule j .entries) i idle ≡ getD schedule (arrival (g .lists .jobs) j + i) idle
     shown-entries f q i b =
         let n = shown-length f q in
-        rw (shown f q) (getD-take (f - arrival (g .jobs) j) (drop (arrival (g .jobs) j) schedule) i idle (omega arith)
-        ∙ getD-drop (arrival (g .jobs) j) schedule i idle)
+        rw (shown f q) (getD-take (f - arrival (g .lists .jobs) j) (drop (arrival (g .lists .jobs) j) schedule) i idle (omega arith)
+        ∙ getD-drop (arrival (g .lists .jobs) j) schedule i idle)
 
 -- an accepted witness
 module _ (g : Given) (horizon : ℕ) (schedule : List ℕ) (j : ℕ) where
@@ -188,32 +179,32 @@ module _ (g : Given) (horizon : ℕ) (schedule : List ℕ) (j : ℕ) where
   abbrev pub Missed : Type 0
   Missed = (verdictSaid (verdictAnswer g (replayed g schedule) j) ≡ say.late) ⊎ (verdictSaid (verdictAnswer g (replayed g schedule) j) ≡ say.ended)
 
-  within : checkWitness g horizon schedule j ≡ Done → checkSchedule g horizon schedule ≡ Done
+  within : checkWitness (g .lists) horizon (length schedule) j ≡ Done → checkSchedule (g .lists) horizon (length schedule) ≡ Done
   unfolding checkWitness
-  within ok = before-first (checkSchedule g horizon schedule) (check13 (g .jobs) j) ok
+  within ok = before-first (checkSchedule (g .lists) horizon (length schedule)) (check13 (g .lists .jobs) j) ok
 
   pub accepted-says : witnessSaid (witnessAnswer g horizon schedule j) ≡ say.accepted
-      → (claimSaid (claimAnswer g horizon schedule) ≡ say.legal) × (j < jobCount (g .jobs)) × Missed
+      → (claimSaid (claimAnswer g horizon schedule) ≡ say.legal) × (j < jobCount (g .lists .jobs)) × Missed
   unfolding witnessSaid witnessAnswer claimSaid claimAnswer verdictSaid
   accepted-says h =
       let w = answered witnesses.Refused (witness g schedule j) witnesses.Accepted (λ n p e. let z : _≡_ {A = ℕ} 0 1 = cc in omega arith)
-      (checkWitness g horizon schedule j) .0 (witness-said (witnessAnswer g horizon schedule j) witnesses.Accepted h) in
-      let v = witnessed g horizon schedule j (w .0) in
-      let l : j < jobCount (g .jobs) = v .named .job in
+      (checkWitness (g .lists) horizon (length schedule) j) .0 (witness-said (witnessAnswer g horizon schedule j) witnesses.Accepted h) in
+      let v = witnessed (g .lists) horizon (length schedule) j (w .0) in
+      let l : j < jobCount (g .lists .jobs) = v .named .job in
       let a = witness-reads g schedule j witnesses.Accepted .0 (w .1) in
       let legal : claimSaid (claimAnswer g horizon schedule) ≡ say.legal =
-      ap claimSaid (unless-done claims.Refused (claim g schedule) (checkSchedule g horizon schedule) (within (w .0)) ∙ a .0) in
-      let taken = verdict-taken g horizon schedule legal j l in
-      (legal, l, ⊎-elim (λ e. inl (ap verdictSaid (taken ∙ e))) (λ e. inr (ap verdictSaid (taken ∙ e))) (missed-reads (verdict g (replayed g schedule) j) .0 (a .1)))
+      ap claimSaid (unless-done claims.Refused (claim g schedule) (checkSchedule (g .lists) horizon (length schedule)) (within (w .0)) ∙ a .0) in
+      let same = taken g horizon schedule legal j l in
+      (legal, l, ⊎-elim (λ e. inl (ap verdictSaid (same ∙ e))) (λ e. inr (ap verdictSaid (same ∙ e))) (missed-reads (verdict (g .lists) (replayed g schedule) j) .0 (a .1)))
 
-  pub missed-accepted : claimSaid (claimAnswer g horizon schedule) ≡ say.legal → j < jobCount (g .jobs) → Missed → witnessSaid (witnessAnswer g horizon schedule j) ≡ say.accepted
+  pub missed-accepted : claimSaid (claimAnswer g horizon schedule) ≡ say.legal → j < jobCount (g .lists .jobs) → Missed → witnessSaid (witnessAnswer g horizon schedule j) ≡ say.accepted
   unfolding witnessSaid verdictSaid
   missed-accepted legal l m =
       ap witnessSaid (witness-taken g horizon schedule legal j l ∙ witness-reads g schedule j witnesses.Accepted .1 (
-        is-legal g horizon schedule legal .legal,
-        missed-reads (verdict g (replayed g schedule) j) .1 (⊎-elim
-            (λ e. inl (sym (verdict-taken g horizon schedule legal j l) ∙ verdict-said (verdictAnswer g (replayed g schedule) j) verdicts.Late e))
-            (λ e. inr (sym (verdict-taken g horizon schedule legal j l) ∙ verdict-said (verdictAnswer g (replayed g schedule) j) verdicts.Ended e)) m),
+        whole-legal g schedule .1 (is-legal g horizon schedule legal .legal),
+        missed-reads (verdict (g .lists) (replayed g schedule) j) .1 (⊎-elim
+            (λ e. inl (sym (taken g horizon schedule legal j l) ∙ verdict-said (verdictAnswer g (replayed g schedule) j) verdicts.Late e))
+            (λ e. inr (sym (taken g horizon schedule legal j l) ∙ verdict-said (verdictAnswer g (replayed g schedule) j) verdicts.Ended e)) m),
       ))
 
 -- three tasks, of which task 0 is topmost: its offset 12 plus its overload time 8 is within its deadline 20
@@ -221,11 +212,11 @@ abbrev pub threeTasks : List ℕ
 threeTasks = 20 ∷ 20 ∷ 4 ∷ 8 ∷ 3 ∷ 2 ∷ 12 ∷ 10 ∷ 10 ∷ 3 ∷ 4 ∷ 2 ∷ 3 ∷ 6 ∷ 40 ∷ 40 ∷ 6 ∷ 6 ∷ 1 ∷ 1 ∷ 30 ∷ []
 
 pub three-tasks-accepted : checkTasks threeTasks ≡ Done
-unfolding checkTasks check2 check3 check4 ascending before refuse outside taskCount period deadline nominal overload criticality priority zeroSlack
+unfolding checkTasks check2 check3 check4 ascending before refuse outside taskCount period deadline nominal overload criticality priority offset
 three-tasks-accepted = refl
 
 pub topmost-example : Topmost threeTasks 0
-unfolding taskCount criticality zeroSlack overload deadline
+unfolding taskCount criticality offset overload deadline
 topmost-example = record { known = ltb-true 0 3 refl; above = less; fits = leb-true 20 20 refl }
   where
     less : (i : ℕ) → i < 3 → (i ≡ 0 → ⊥) → criticality threeTasks i < 3

@@ -1,7 +1,8 @@
--- A legal claim, tick by tick: the record before each entry is the replay of the entries before it, and each entry is legal there.
+-- A schedule, tick by tick: the record before each entry is the replay of the entries before it, and each entry is legal there or not.
 -- An invariant that each legal entry keeps holds of every such record.
+use native.Mathlib.Decide.{decLt}
 use Prim.Native.Nat.{_+_, _<_, suc, zero, ℕ, _≤_}
-use mathlib.Core.Bool.{false, true}
+use mathlib.Core.Bool.{false, true, Bool}
 use mathlib.Core.List.{List, [], _∷_}
 use mathlib.Core.Logic.{inl, inr, _⊎_}
 use mathlib.Core.Path.{ap, sym, _∙_, _≡_}
@@ -9,103 +10,109 @@ use native.Mathlib.Nat.{not-suc-le-zero}
 use native.Mathlib.Omega.{arith}
 use lib.ListN.{getD, length, length-take, take}
 use lib.Seq.{take-length}
-use Rattle.bits.proofs.Bools.{and-left, either}
-use Rattle.zsrm.specs.declared.answers.Claim.the-variants.{Legal, NotLegal}
+use Rattle.bits.proofs.Bools.{and-left, either, clash}
 use Rattle.zsrm.specs.declared.record.Record.{Record}
-use Rattle.zsrm.specs.Legal.{claimFrom, dispatched, legalEntry}
+use Rattle.zsrm.specs.Legal.{candidateOrIdle, legalEntry, legalFrom}
 use Rattle.zsrm.specs.Record.{fresh}
-use Rattle.zsrm.specs.Run.{recordAt, recordBefore, replay, replayed}
-use Rattle.zsrm.specs.Tables.{Given, idle}
+use Rattle.zsrm.specs.Run.{replay, replayed, recordAt, recordBefore}
+use Rattle.zsrm.specs.Given.{Given}
+use Rattle.tables.specs.Tables.{idle}
 use Rattle.zsrm.specs.Tick.{advanced}
-use Rattle.zsrm.proofs.Laws.Places.{tick-advanced}
 
 -- a legal entry is a candidate, or idle with no candidate
-pub legal-dispatch : (g : Given) (r : Record) (p e : ℕ) → legalEntry g r p e ≡ true → dispatched g r e ≡ true
+pub legal-may : (g : Given) (r : Record) (p e : ℕ) → legalEntry g r p e ≡ true → candidateOrIdle g r e ≡ true
 unfolding legalEntry
-legal-dispatch g r p e h = and-left (dispatched g r e) _ h
+legal-may g r p e h = and-left (candidateOrIdle g r e) _ h
 
 module _ (g : Given) where
-  -- the two steps of a claim
-  pub claim-goes-on : (r : Record) (p e : ℕ) (es : List ℕ) → legalEntry g r p e ≡ true → claimFrom g r p (e ∷ es) ≡ claimFrom g (advanced g r e) e es
-  unfolding claimFrom
-  claim-goes-on r p e es q = rw (q, claimFrom)
+  -- every entry is legal
+  abbrev pub AllLegal : Record → ℕ → List ℕ → Type 0
+  AllLegal r p es = legalFrom g r p es ≡ length es
 
-  pub claim-stops : (r : Record) (p e : ℕ) (es : List ℕ) → legalEntry g r p e ≡ false → claimFrom g r p (e ∷ es) ≡ NotLegal (r .tick)
-  unfolding claimFrom
-  claim-stops r p e es q = rw (q, claimFrom)
+  -- the two steps
+  pub legal-goes-on : (r : Record) (p e : ℕ) (es : List ℕ) → legalEntry g r p e ≡ true → legalFrom g r p (e ∷ es) ≡ suc (legalFrom g (advanced g r e) e es)
+  unfolding legalFrom
+  legal-goes-on r p e es q = rw (q, legalFrom)
 
-  -- the first entry of a legal claim is legal, and the rest is a legal claim from the advanced record
-  pub claim-first : (r : Record) (p e : ℕ) (es : List ℕ) → claimFrom g r p (e ∷ es) ≡ Legal → legalEntry g r p e ≡ true
-  claim-first r p e es c = go (either (legalEntry g r p e))
+  pub legal-stops : (r : Record) (p e : ℕ) (es : List ℕ) → legalEntry g r p e ≡ false → legalFrom g r p (e ∷ es) ≡ 0
+  unfolding legalFrom
+  legal-stops r p e es q = rw (q, legalFrom)
+
+  -- the first of legal entries is legal, and so is the rest from the advanced record
+  pub legal-first : (r : Record) (p e : ℕ) (es : List ℕ) → AllLegal r p (e ∷ es) → legalEntry g r p e ≡ true
+  legal-first r p e es c = go (either (legalEntry g r p e))
     where
       go : (legalEntry g r p e ≡ true) ⊎ (legalEntry g r p e ≡ false) → legalEntry g r p e ≡ true
       go (inl q) = q
-      go (inr q) = let s = claim-stops r p e es q in let z : _≡_ {A = ℕ} 0 1 = cc in absurd (omega arith)
+      go (inr q) = absurd (omega (arith, legal-stops r p e es q))
 
-  pub claim-rest : (r : Record) (p e : ℕ) (es : List ℕ) → claimFrom g r p (e ∷ es) ≡ Legal → claimFrom g (advanced g r e) e es ≡ Legal
-  claim-rest r p e es c = sym (claim-goes-on r p e es (claim-first r p e es c)) ∙ c
+  pub legal-rest : (r : Record) (p e : ℕ) (es : List ℕ) → AllLegal r p (e ∷ es) → AllLegal (advanced g r e) e es
+  legal-rest r p e es c = omega (arith, legal-goes-on r p e es (legal-first r p e es c))
 
-  pub legal-at : (r : Record) (p : ℕ) (es : List ℕ) → claimFrom g r p es ≡ Legal → (t : ℕ) → t < length es
-      → legalEntry g (recordAt g r es t) (getD (p ∷ es) t idle) (getD es t idle) ≡ true
-  unfolding recordAt replay
-  legal-at r p [] c t h = absurd (not-suc-le-zero h)
-  legal-at r p (e ∷ es) c zero h = claim-first r p e es c
-  legal-at r p (e ∷ es) c (suc t) h = legal-at (advanced g r e) e es (claim-rest r p e es c) t (omega arith)
+  -- entry i is legal, earlier entries taken as given
+  abbrev pub LegalIn : Record → ℕ → List ℕ → ℕ → Bool
+  LegalIn r p es i = legalEntry g (recordAt g r es i) (getD (p ∷ es) i idle) (getD es i idle)
 
-  -- not legal at t: t is a tick of the claim, its entry is not legal there, and every entry before it is
-  pub record FirstBad (r : Record) (p : ℕ) (es : List ℕ) (t k : ℕ) : Type 0 where
-    pub tick : t ≡ r .tick + k
-    pub within : k < length es
-    pub bad : legalEntry g (recordAt g r es k) (getD (p ∷ es) k idle) (getD es k idle) ≡ false
-    pub good : (i : ℕ) → i < k → legalEntry g (recordAt g r es i) (getD (p ∷ es) i idle) (getD es i idle) ≡ true
+  -- the first k entries are legal, and the next, if there is one, is not
+  pub record Beginning (r : Record) (p : ℕ) (es : List ℕ) (k : ℕ) : Type 0 where
+    pub within : k ≤ length es
+    pub good : (i : ℕ) → i < k → LegalIn r p es i ≡ true
+    pub bad : k < length es → LegalIn r p es k ≡ false
 
-  pub not-legal-at : (r : Record) (p : ℕ) (es : List ℕ) (t : ℕ) → claimFrom g r p es ≡ NotLegal t → (k : ℕ) × FirstBad r p es t k
-  unfolding recordAt replay claimFrom
-  not-legal-at r p [] t c = let z : _≡_ {A = ℕ} 0 1 = cc in absurd (omega arith)
-  not-legal-at r p (e ∷ es) t c = go (either (legalEntry g r p e)) (not-legal-at (advanced g r e) e es t)
+  pub beginning : (r : Record) (p : ℕ) (es : List ℕ) → Beginning r p es (legalFrom g r p es)
+  unfolding recordAt replay legalFrom
+  beginning r p [] = record { within = omega arith; good = λ i l. absurd (not-suc-le-zero l); bad = λ l. absurd (not-suc-le-zero l) }
+  beginning r p (e ∷ es) = go (either (legalEntry g r p e)) (beginning (advanced g r e) e es)
     where
-      Bad : Type 0
-      Bad = (k : ℕ) × FirstBad r p (e ∷ es) t k
-
-      go : (legalEntry g r p e ≡ true) ⊎ (legalEntry g r p e ≡ false)
-          → (claimFrom g (advanced g r e) e es ≡ NotLegal t → (k : ℕ) × FirstBad (advanced g r e) e es t k) → Bad
-      go (inl q) ih =
-          let w = ih (sym (claim-goes-on r p e es q) ∙ c) in
-          let x = w .1 in
-          let one : advanced g r e .tick ≡ suc (r .tick) = tick-advanced g r e in
-          (suc (w .0), record { tick = omega arith; within = omega arith; bad = x .bad; good = before q (x .good) })
+      go : (legalEntry g r p e ≡ true) ⊎ (legalEntry g r p e ≡ false) → Beginning (advanced g r e) e es (legalFrom g (advanced g r e) e es)
+          → Beginning r p (e ∷ es) (legalFrom g r p (e ∷ es))
+      go (inl q) w =
+          rw (legal-goes-on r p e es q)
+          (record { within = omega (arith, w .within); good = earlier; bad = λ l. w .bad (omega arith) })
         where
-          before : {k : ℕ} → legalEntry g r p e ≡ true
-              → ((i : ℕ) → i < k → legalEntry g (recordAt g (advanced g r e) es i) (getD (e ∷ es) i idle) (getD es i idle) ≡ true)
-              → (i : ℕ) → i < suc k → legalEntry g (recordAt g r (e ∷ es) i) (getD (p ∷ e ∷ es) i idle) (getD (e ∷ es) i idle) ≡ true
-          before q h zero l = q
-          before q h (suc i) l = h i (omega arith)
-      go (inr q) ih =
-          let s = claim-stops r p e es q in
-          let same : t ≡ r .tick = cc in
-          (zero, record { tick = omega arith; within = omega arith; bad = q; good = λ i l. absurd (not-suc-le-zero l) })
+          earlier : (i : ℕ) → i < suc (legalFrom g (advanced g r e) e es) → LegalIn r p (e ∷ es) i ≡ true
+          earlier zero l = q
+          earlier (suc i) l = w .good i (omega arith)
+      go (inr q) w =
+          rw (legal-stops r p e es q)
+          (record { within = omega arith; good = λ i l. absurd (not-suc-le-zero l); bad = λ l. q })
+
+  -- there is one such k
+  pub beginning-is : (r : Record) (p : ℕ) (es : List ℕ) (k : ℕ) → Beginning r p es k → legalFrom g r p es ≡ k
+  beginning-is r p es k w = go (decLt (legalFrom g r p es) k) (decLt k (legalFrom g r p es))
+    where
+      b : Beginning r p es (legalFrom g r p es)
+      b = beginning r p es
+
+      go : Dec (legalFrom g r p es < k) → Dec (k < legalFrom g r p es) → legalFrom g r p es ≡ k
+      go (yes l) m = clash (w .good (legalFrom g r p es) l) (b .bad (omega (arith, w .within)))
+      go (no l) (yes m) = clash (b .good k m) (w .bad (omega (arith, b .within)))
+      go (no l) (no m) = omega arith
+
+  pub legal-at : (r : Record) (p : ℕ) (es : List ℕ) → AllLegal r p es → (t : ℕ) → t < length es → LegalIn r p es t ≡ true
+  legal-at r p es c t h = beginning r p es .good t (omega arith)
 
   pub tick-replay : (r : Record) (es : List ℕ) → replay g r es .tick ≡ r .tick + length es
   unfolding replay advanced
   tick-replay r [] = omega arith
   tick-replay r (e ∷ es) = let ih = tick-replay (advanced g r e) es in omega arith
 
-  -- what each legal entry at a tick below the limit keeps holds before each entry of a legal claim, and after the last
+  -- what each legal entry at a tick below the limit keeps holds before each entry of a legal schedule, and after the last
   module _ (limit : ℕ) (P : Record → Type 0)
       (keeps : (r : Record) (p e : ℕ) → r .tick < limit → legalEntry g r p e ≡ true → P r → P (advanced g r e)) where
-    pub kept-at : (r : Record) (p : ℕ) (es : List ℕ) → r .tick + length es ≤ limit → claimFrom g r p es ≡ Legal → P r → (t : ℕ) → P (recordAt g r es t)
+    pub kept-at : (r : Record) (p : ℕ) (es : List ℕ) → r .tick + length es ≤ limit → AllLegal r p es → P r → (t : ℕ) → P (recordAt g r es t)
     unfolding recordAt replay advanced
     kept-at r p [] b c h zero = h
     kept-at r p [] b c h (suc t) = h
     kept-at r p (e ∷ es) b c h zero = h
     kept-at r p (e ∷ es) b c h (suc t) =
-        kept-at (advanced g r e) e es (omega arith) (claim-rest r p e es c) (keeps r p e (omega arith) (claim-first r p e es c) h) t
+        kept-at (advanced g r e) e es (omega arith) (legal-rest r p e es c) (keeps r p e (omega arith) (legal-first r p e es c) h) t
 
 pub tick-recordBefore : (g : Given) (es : List ℕ) (t : ℕ) → t ≤ length es → recordBefore g es t .tick ≡ t
 unfolding recordBefore recordAt fresh
-tick-recordBefore g es t h = tick-replay g (fresh (g .jobs)) (take t es) ∙ simp length-take (omega arith)
+tick-recordBefore g es t h = tick-replay g (fresh (g .lists .jobs)) (take t es) ∙ simp length-take (omega arith)
 
 -- the record before the tick after the last is the one at the end
 pub replayed-is : (g : Given) (es : List ℕ) (n : ℕ) → length es ≡ n → recordBefore g es n ≡ replayed g es
 unfolding recordBefore recordAt replayed
-replayed-is g es n e = ap (λ (x : ℕ). replay g (fresh (g .jobs)) (take x es)) (sym e) ∙ rw take-length
+replayed-is g es n e = ap (λ (x : ℕ). replay g (fresh (g .lists .jobs)) (take x es)) (sym e) ∙ rw take-length

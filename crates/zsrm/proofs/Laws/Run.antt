@@ -13,25 +13,25 @@ use borrow.Author.Tests.{eq-eqb, lt-ltb}
 use Rattle.bits.specs.Below.{least, some}
 use Rattle.bits.proofs.Below.{least-found, least-none}
 use Rattle.bits.proofs.Bools.{and-true, either, not-of, or-left, or-right}
-use Rattle.zsrm.specs.declared.answers.Claim.the-variants.{Legal}
 use Rattle.zsrm.specs.declared.record.Record.{Record}
-use Rattle.zsrm.specs.Legal.{claim, claimFrom, dispatched, legalEntry, schedulingInstant}
+use Rattle.zsrm.specs.Legal.{candidateOrIdle, legalEntry, schedulingInstant, legalFrom}
 use Rattle.zsrm.specs.Record.{consistent, fresh}
-use Rattle.zsrm.specs.Run.{entries, entriesBy, replay, runEntries}
-use Rattle.zsrm.specs.Tables.{Given, idle, jobCount}
+use Rattle.zsrm.specs.Run.{entriesBy, replay, runEntries}
+use Rattle.zsrm.specs.Given.{Given}
+use Rattle.tables.specs.Tables.{idle, jobCount}
 use Rattle.zsrm.specs.Tick.{advanced, candidate, choice, someJob}
 use Rattle.zsrm.proofs.Laws.Consistent.{advanced-consistent, fresh-consistent}
 use Rattle.zsrm.proofs.Laws.Places.{tick-advanced, tick-fresh}
-use Rattle.zsrm.proofs.Laws.Replay.{claim-goes-on}
 use Rattle.zsrm.proofs.Laws.Steady.{choice-same}
+use Rattle.zsrm.proofs.Laws.Replay.{AllLegal, legal-goes-on}
 
 module _ (g : Given) where
-  pub choice-dispatch : (r : Record) → dispatched g r (choice g r) ≡ true
-  unfolding dispatched choice someJob
-  choice-dispatch r = go (either (some n (candidate g r)))
+  pub choice-may : (r : Record) → candidateOrIdle g r (choice g r) ≡ true
+  unfolding candidateOrIdle choice someJob
+  choice-may r = go (either (some n (candidate g r)))
     where
       n : ℕ
-      n = jobCount (g .jobs)
+      n = jobCount (g .lists .jobs)
 
       x : ℕ
       x = least n (candidate g r) idle
@@ -43,7 +43,7 @@ module _ (g : Given) where
 
   -- a way to choose that takes what may be taken, and stays with it while the next tick is no scheduling instant
   pub record Steadfast (pick : Record → ℕ) : Type 0 where
-    pub takes : (r : Record) → dispatched g r (pick r) ≡ true
+    pub takes : (r : Record) → candidateOrIdle g r (pick r) ≡ true
     pub stays : (r : Record) → consistent g r ≡ true → schedulingInstant g (advanced g r (pick r)) (pick r) ≡ false → pick (advanced g r (pick r)) ≡ pick r
 
   module _ (pick : Record → ℕ) (s : Steadfast pick) where
@@ -59,30 +59,30 @@ module _ (g : Given) where
         go (inl i) = or-left _ (or-right (eqb (after .tick) 0) i)
         go (inr q) = or-right (eqb (after .tick) 0 || schedulingInstant g after (pick r)) (eq-eqb (pick after) (pick r) (s .stays r sound q))
 
-    -- its run is a legal claim from any consistent record at which its first entry is legal
+    -- its run is legal from any consistent record at which its first entry is
     pub run-legal : (n : ℕ) (r : Record) (p : ℕ) → r .tick + n ≤ 16384 → consistent g r ≡ true → legalEntry g r p (pick r) ≡ true
-        → claimFrom g r p (entriesBy g pick r n) ≡ Legal
-    unfolding claimFrom entriesBy
+        → AllLegal g r p (entriesBy g pick r n)
+    unfolding legalFrom entriesBy
     run-legal zero r p b sound first = refl
     run-legal (suc n) r p b sound first =
-        claim-goes-on g r p (pick r) (entriesBy g pick (advanced g r (pick r)) n) first
-        ∙ run-legal n (advanced g r (pick r)) (pick r) (rw tick-advanced (omega arith))
-        (advanced-consistent g r (pick r) (omega arith) (s .takes r) sound) (next-legal r sound)
+        legal-goes-on g r p (pick r) (entriesBy g pick (advanced g r (pick r)) n) first
+        ∙ ap suc
+        (run-legal n (advanced g r (pick r)) (pick r) (rw tick-advanced (omega arith))
+        (advanced-consistent g r (pick r) (omega arith) (s .takes r) sound) (next-legal r sound))
 
-    fresh-legal : legalEntry g (fresh (g .jobs)) idle (pick (fresh (g .jobs))) ≡ true
+    fresh-legal : legalEntry g (fresh (g .lists .jobs)) idle (pick (fresh (g .lists .jobs))) ≡ true
     unfolding legalEntry
-    fresh-legal = and-true (s .takes (fresh (g .jobs))) (or-left _ (or-left _ (eq-eqb (fresh (g .jobs) .tick) 0 (tick-fresh (g .jobs)))))
+    fresh-legal = and-true (s .takes (fresh (g .lists .jobs))) (or-left _ (or-left _ (eq-eqb (fresh (g .lists .jobs) .tick) 0 (tick-fresh (g .lists .jobs)))))
 
-    pub run-legal-fresh : (horizon : ℕ) → horizon ≤ 16384 → claim g (entriesBy g pick (fresh (g .jobs)) horizon) ≡ Legal
-    unfolding claim
-    run-legal-fresh h b = run-legal h (fresh (g .jobs)) idle (rw tick-fresh (omega arith)) (fresh-consistent g) fresh-legal
+    pub run-legal-fresh : (horizon : ℕ) → horizon ≤ 16384 → AllLegal g (fresh (g .lists .jobs)) idle (entriesBy g pick (fresh (g .lists .jobs)) horizon)
+    run-legal-fresh h b = run-legal h (fresh (g .lists .jobs)) idle (rw tick-fresh (omega arith)) (fresh-consistent g) fresh-legal
 
   -- our run's choice is one
-  pub lowest-steadfast : jobCount (g .jobs) ≤ 64 → Steadfast (choice g)
-  lowest-steadfast few = record { takes = choice-dispatch; stays = λ r sound q. choice-same g r (choice g r) (choice g r) few sound q }
+  pub lowest-steadfast : jobCount (g .lists .jobs) ≤ 64 → Steadfast (choice g)
+  lowest-steadfast few = record { takes = choice-may; stays = λ r sound q. choice-same g r (choice g r) (choice g r) few sound q }
 
-  pub our-run-legal : jobCount (g .jobs) ≤ 64 → (horizon : ℕ) → horizon ≤ 16384 → claim g (runEntries g horizon) ≡ Legal
-  unfolding runEntries entries
+  pub our-run-legal : jobCount (g .lists .jobs) ≤ 64 → (horizon : ℕ) → horizon ≤ 16384 → AllLegal g (fresh (g .lists .jobs)) idle (runEntries g horizon)
+  unfolding runEntries
   our-run-legal few h b = run-legal-fresh (choice g) (lowest-steadfast few) h b
 
   -- running a ticks and then b is running a + b: for any way to choose
@@ -103,5 +103,5 @@ module _ (g : Given) where
   length-entries pick (suc n) r = ap suc (length-entries pick n (advanced g r (pick r)))
 
   pub length-run : (horizon : ℕ) → length (runEntries g horizon) ≡ horizon
-  unfolding runEntries entries
-  length-run horizon = length-entries (choice g) horizon (fresh (g .jobs))
+  unfolding runEntries
+  length-run horizon = length-entries (choice g) horizon (fresh (g .lists .jobs))

@@ -7,12 +7,11 @@ use native.Mathlib.Omega.{arith}
 use lib.Dec.{eqb, ltb}
 use borrow.Author.Tests.{le-ltb}
 use Rattle.zsrm.specs.declared.answers.Claim.{Claim}
-use Rattle.zsrm.specs.declared.answers.Outcome.{Outcome}
 use Rattle.zsrm.specs.declared.answers.Verdict.{Verdict}
 use Rattle.zsrm.specs.declared.answers.Witness.{Witness}
 use Rattle.zsrm.specs.declared.record.Standing.{Standing}
-use Rattle.zsrm.specs.Said.{claimSaid, outcomeSaid, standingSaid, verdictSaid, witnessSaid}
-use Rattle.zsrm.specs.declared.answers.Outcome.the-variants as outcomes
+use Rattle.zsrm.specs.Said.{claimSaid, standingSaid, verdictSaid, witnessSaid}
+use Rattle.tables.specs.declared.outcome.Outcome.the-variants as outcomes
 use Rattle.zsrm.specs.declared.answers.Claim.the-variants as claims
 use Rattle.zsrm.specs.declared.answers.Verdict.the-variants as verdicts
 use Rattle.zsrm.specs.declared.answers.Witness.the-variants as witnesses
@@ -35,17 +34,6 @@ notLegalOr notLegal small x = cond (ltb x 65536) (small x) (notLegal (x - 65536)
 not-legal-back : {A : Type 0} (notLegal small : ℕ → A) (t : ℕ) → notLegalOr notLegal small (65536 + t) ≡ notLegal t
 unfolding notLegalOr
 not-legal-back notLegal small t = rw (le-ltb (65536 + t) 65536 (omega arith)) (ap notLegal (omega arith))
-
-outcomeOf : List ℕ → Outcome
-outcomeOf = back outcomes.Refused (λ x. outcomes.Done)
-
-pub outcome-said : (a b : Outcome) → outcomeSaid a ≡ outcomeSaid b → a ≡ b
-unfolding outcomeSaid outcomeOf back
-outcome-said = told outcomeSaid outcomeOf again
-  where
-    again : (a : Outcome) → outcomeOf (outcomeSaid a) ≡ a
-    again outcomes.Done = refl
-    again (outcomes.Refused n p) = refl
 
 claimOf : List ℕ → Claim
 claimOf = back claims.Refused (notLegalOr claims.NotLegal (λ x. claims.Legal))

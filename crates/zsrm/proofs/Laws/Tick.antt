@@ -1,109 +1,155 @@
--- The laws of one tick, at any record, whatever led to it: who is alive, past zero slack, eligible, a candidate; that a legal entry
--- serves every job past zero slack; that the job that runs is not ended.
-use Prim.Native.Nat.{_<_, ℕ, _≤_}
-use mathlib.Core.Bool.{_&&_, false, not, true}
-use mathlib.Core.Logic.{inl, inr, _⊎_}
-use mathlib.Core.Path.{_≡_}
+-- The laws of one tick, at any record, whatever led to it: who is past zero slack, eligible, a candidate; that a legal entry serves
+-- every job past zero slack; what the tick does to a job alive in it; that the job that runs is not ended.
+use Prim.Native.Nat.{_<_, ℕ, _≤_, suc, _+_}
+use mathlib.Core.Bool.{_&&_, false, true}
+use mathlib.Core.Logic.{_⊎_, ⊎-elim, Iff·rfl, _↔_, _≢_, Iff·trans}
+use mathlib.Core.Path.{_≡_, refl}
 use native.Mathlib.Omega.{arith}
 use lib.Dec.{eqb, ltb}
-use borrow.Author.Tests.{le-leb, ltb-false, ltb-true, not-true}
-use Rattle.bits.proofs.Below.{some-false, some-found, some-true}
-use Rattle.bits.proofs.Bools.{and-false, and-false-right, and-left, and-right, and-true, clash, fails, not-of, or-cases, passed}
-use Rattle.bits.proofs.Most.{Most, most, none-greater}
+use borrow.Author.Tests.{not-true, eq-eqb, ne-eqb}
+use Rattle.bits.proofs.Below.{some-found, some-true}
+use Rattle.bits.proofs.Bools.{and-false, and-false-right, and-left, and-right, and-true, clash, fails, not-of, passed, by-cond}
+use Rattle.bits.proofs.Most.{Most, most}
 use Rattle.zsrm.specs.declared.record.Record.{Record}
-use Rattle.zsrm.specs.Legal.{dispatched}
-use Rattle.zsrm.specs.Tables.{Given, idle, jobCount, jobCriticality, jobPriority, zeroSlackInstant}
-use Rattle.zsrm.specs.Tick.{alive, candidate, eligible, ends, higherPriority, moreCritical, over, pastZeroSlack, someJob, suspended}
+use Rattle.zsrm.specs.Legal.{candidateOrIdle}
+use Rattle.zsrm.specs.Given.{Given, isSE}
+use Rattle.tables.specs.Tables.{idle, jobCount, jobCriticality, jobPriority, zeroSlackInstant, execution}
+use Rattle.zsrm.specs.Tick.{alive, candidate, eligible, ends, higherPriority, moreCritical, over, pastZeroSlack, someJob, suspended, doneAfter, finishes, goesOn}
+use Rattle.bits.proofs.Readings.{and-reads, eq-reads, lt-reads, not-reads, or-reads, and-fails, lt-fails, none-reads, le-reads}
+use Rattle.zsrm.specs.Record.{doneAt}
+use Rattle.zsrm.specs.declared.record.Standing.{Standing}
+use Rattle.zsrm.specs.declared.record.Standing.the-variants.{Ended, Finished, Unfinished}
+use Rattle.zsrm.specs.declared.mode.Mode.{Mode}
+use Rattle.zsrm.specs.declared.mode.Mode.the-variants.{S, SE}
+use Rattle.bits.specs.Below.{some}
 
 module _ (g : Given) (r : Record) where
-  -- the same facts as tests passed, for a job below the job count
-  pub past-alive : (j : ℕ) → pastZeroSlack g r j ≡ true → alive r j ≡ true
+  pub past-exactly : (j : ℕ) → pastZeroSlack g r j ≡ true ↔ (alive r j ≡ true) × (zeroSlackInstant (g .lists) j ≤ r .tick)
   unfolding pastZeroSlack
-  past-alive j p = and-left (alive r j) _ p
+  past-exactly j = and-reads Iff·rfl (le-reads _ _)
+
+  -- a job is eligible exactly when it is alive, with no more critical job past zero slack
+  pub eligible-exactly : (j : ℕ) → eligible g r j ≡ true
+      ↔ (alive r j ≡ true) × ((i : ℕ) → i < jobCount (g .lists .jobs) → pastZeroSlack g r i ≡ true → jobCriticality (g .lists) i ≤ jobCriticality (g .lists) j)
+  unfolding eligible suspended someJob moreCritical
+  eligible-exactly j = (
+    λ h. let a = and-left (alive r j) _ h in (a, none .0 (and-false a (not-true _ (and-right (alive r j) _ h)))),
+    λ w. and-true (w .0) (not-of (and-false-right (alive r j) (none .1 (w .1)))),
+  )
+    where
+      none : some (jobCount (g .lists .jobs)) (λ i. pastZeroSlack g r i && ltb (jobCriticality (g .lists) j) (jobCriticality (g .lists) i)) ≡ false
+          ↔ ((i : ℕ) → i < jobCount (g .lists .jobs) → pastZeroSlack g r i ≡ true → jobCriticality (g .lists) i ≤ jobCriticality (g .lists) j)
+      none = none-reads _ (λ i. and-fails (lt-fails _ _))
 
   pub eligible-alive : (j : ℕ) → eligible g r j ≡ true → alive r j ≡ true
-  unfolding eligible
-  eligible-alive j p = and-left (alive r j) _ p
-
-  pub candidate-eligible : (j : ℕ) → candidate g r j ≡ true → eligible g r j ≡ true
-  unfolding candidate
-  candidate-eligible j p = and-left (eligible g r j) _ p
-
-  -- no job past zero slack is more critical than an eligible one
-  pub eligible-tops : (j i : ℕ) → i < jobCount (g .jobs) → eligible g r j ≡ true → pastZeroSlack g r i ≡ true
-      → jobCriticality g i ≤ jobCriticality g j
-  unfolding eligible suspended someJob moreCritical
-  eligible-tops j i l p q =
-      ltb-false (jobCriticality g j) (jobCriticality g i)
-      (and-false q
-      (some-false (λ k. pastZeroSlack g r k && moreCritical g k j) (jobCount (g .jobs)) i l
-      (and-false (eligible-alive j p) (not-true (suspended g r j) (and-right (alive r j) _ p)))))
+  eligible-alive j h = eligible-exactly j .0 h .0
 
   -- the most critical job past zero slack is eligible
-  pub top-eligible : (k : ℕ) → Most (pastZeroSlack g r) (jobCriticality g) (jobCount (g .jobs)) k → eligible g r k ≡ true
-  unfolding eligible suspended someJob moreCritical
-  top-eligible k w =
-      and-true (past-alive k (w .passes))
-      (not-of (and-false-right (alive r k) (none-greater (pastZeroSlack g r) (jobCriticality g) (jobCount (g .jobs)) k w)))
+  pub top-eligible : (k : ℕ) → Most (pastZeroSlack g r) (jobCriticality (g .lists)) (jobCount (g .lists .jobs)) k → eligible g r k ≡ true
+  top-eligible k w = eligible-exactly k .1 (past-exactly k .0 (w .passes) .0, w .tops)
+
+  -- a job is a candidate exactly when it is eligible, with no eligible job of higher priority
+  pub candidate-exactly : (j : ℕ) → candidate g r j ≡ true
+      ↔ (eligible g r j ≡ true) × ((i : ℕ) → i < jobCount (g .lists .jobs) → eligible g r i ≡ true → jobPriority (g .lists) i ≤ jobPriority (g .lists) j)
+  unfolding candidate someJob higherPriority
+  candidate-exactly j = and-reads Iff·rfl (Iff·trans (not-reads _) (none-reads _ (λ i. and-fails (lt-fails _ _))))
+
+  pub candidate-eligible : (j : ℕ) → candidate g r j ≡ true → eligible g r j ≡ true
+  candidate-eligible j h = candidate-exactly j .0 h .0
 
   -- where a job is eligible, a candidate exists
-  pub some-candidate : (k : ℕ) → k < jobCount (g .jobs) → eligible g r k ≡ true → someJob g (candidate g r) ≡ true
-  unfolding candidate someJob higherPriority
-  some-candidate k l p =
-      let w = most (eligible g r) (jobPriority g) (jobCount (g .jobs)) k l p in
-      some-true (candidate g r) (jobCount (g .jobs)) (w .0) (w .1 .below)
-      (and-true (w .1 .passes) (not-of (none-greater (eligible g r) (jobPriority g) (jobCount (g .jobs)) (w .0) (w .1))))
+  pub some-candidate : (k : ℕ) → k < jobCount (g .lists .jobs) → eligible g r k ≡ true → someJob (g .lists .jobs) (candidate g r) ≡ true
+  unfolding someJob
+  some-candidate k l h =
+      let w = most (eligible g r) (jobPriority (g .lists)) (jobCount (g .lists .jobs)) k l h in
+      some-true (candidate g r) (jobCount (g .lists .jobs)) (w .0) (w .1 .below) (candidate-exactly (w .0) .1 (w .1 .passes, w .1 .tops))
+
+  -- the entry of a tick is a candidate, or idle with none
+  runs-or-idle : (e : ℕ) → candidateOrIdle g r e ≡ true
+      → ((e < jobCount (g .lists .jobs)) × (candidate g r e ≡ true)) ⊎ ((e ≡ idle) × (someJob (g .lists .jobs) (candidate g r) ≡ false))
+  unfolding candidateOrIdle
+  runs-or-idle e = or-reads (and-reads (lt-reads _ _) Iff·rfl) (and-reads (eq-reads _ _) (not-reads _)) .0
 
   -- where a job is past zero slack, the entry of a tick is a job, alive and no less critical
   pub record Serves (j e : ℕ) : Type 0 where
-    pub job : e < jobCount (g .jobs)
+    pub job : e < jobCount (g .lists .jobs)
     pub lives : alive r e ≡ true
-    pub no-less : jobCriticality g j ≤ jobCriticality g e
+    pub no-less : jobCriticality (g .lists) j ≤ jobCriticality (g .lists) e
 
-  pub dispatch-serves : (e j : ℕ) → dispatched g r e ≡ true → j < jobCount (g .jobs) → pastZeroSlack g r j ≡ true → Serves j e
-  unfolding dispatched
-  dispatch-serves e j d l q = go (or-cases (ltb e (jobCount (g .jobs)) && candidate g r e) _ d)
+  pub dispatch-serves : (e j : ℕ) → candidateOrIdle g r e ≡ true → j < jobCount (g .lists .jobs) → pastZeroSlack g r j ≡ true → Serves j e
+  dispatch-serves e j d l q = ⊎-elim runs none (runs-or-idle e d)
     where
-      go : ((ltb e (jobCount (g .jobs)) && candidate g r e) ≡ true) ⊎ ((eqb e idle && not (someJob g (candidate g r))) ≡ true) → Serves j e
-      go (inl c) =
-          let x : eligible g r e ≡ true = candidate-eligible e (and-right (ltb e (jobCount (g .jobs))) _ c) in
-          record {
-            job = ltb-true e (jobCount (g .jobs)) (and-left (ltb e (jobCount (g .jobs))) _ c);
-            lives = eligible-alive e x;
-            no-less = eligible-tops e j l x q;
-          }
-      go (inr c) =
-          let w = most (pastZeroSlack g r) (jobCriticality g) (jobCount (g .jobs)) j l q in
-          clash (some-candidate (w .0) (w .1 .below) (top-eligible (w .0) (w .1)))
-          (not-true (someJob g (candidate g r)) (and-right (eqb e idle) _ c))
+      runs : (e < jobCount (g .lists .jobs)) × (candidate g r e ≡ true) → Serves j e
+      runs c =
+          let x = candidate-eligible e (c .1) in
+          record { job = c .0; lives = eligible-alive e x; no-less = eligible-exactly e .0 x .1 j l q }
 
-pub past-of : (g : Given) (r : Record) (j : ℕ) → alive r j ≡ true → zeroSlackInstant g j ≤ r .tick → pastZeroSlack g r j ≡ true
-unfolding pastZeroSlack
-past-of g r j a z = and-true a (le-leb (zeroSlackInstant g j) (r .tick) z)
+      none : (e ≡ idle) × (someJob (g .lists .jobs) (candidate g r) ≡ false) → Serves j e
+      none c =
+          let w = most (pastZeroSlack g r) (jobCriticality (g .lists)) (jobCount (g .lists .jobs)) j l q in
+          clash (some-candidate (w .0) (w .1 .below) (top-eligible (w .0) (w .1))) (c .1)
 
--- a job that is ended is strictly less critical than some job past zero slack
-pub record EndedBy (g : Given) (r : Record) (j i : ℕ) : Type 0 where
-  pub job : i < jobCount (g .jobs)
-  pub past : pastZeroSlack g r i ≡ true
-  pub more : jobCriticality g j < jobCriticality g i
+  -- the job that runs is eligible
+  pub runs-eligible : (e j : ℕ) → candidateOrIdle g r e ≡ true → j < 64 → e ≡ j → eligible g r j ≡ true
+  runs-eligible e j d l q =
+      ⊎-elim (λ c. rw q at (candidate-eligible e (c .1))) (λ c. absurd (omega (arith, c .0))) (runs-or-idle e d)
 
-pub ends-by : (g : Given) (r : Record) (e j : ℕ) → ends g r e j ≡ true → (i : ℕ) × EndedBy g r j i
-unfolding ends someJob over moreCritical
-ends-by g r e j h =
-    let w = some-found (λ i. over g r e i && moreCritical g i j) (jobCount (g .jobs)) (search passed) in
-    let x = w .2 in
-    (w .0, record { job = w .1; past = search passed depth 7; more = search passed })
+pub is-SE : (m : Mode) → isSE m ≡ true → m ≡ SE
+is-SE S h = clash h refl
+is-SE SE h = refl
 
--- no eligible job is ended in its tick
-pub eligible-unended : (g : Given) (r : Record) (e j : ℕ) → eligible g r j ≡ true → ends g r e j ≡ false
-eligible-unended g r e j h =
-    fails (ends g r e j) (λ x. let w = ends-by g r e j x in omega (arith, w .1 .more, eligible-tops g r j (w .0) (w .1 .job) h (w .1 .past)))
+pub se-reads : (m : Mode) → isSE m ≡ true ↔ m ≡ SE
+se-reads m = (is-SE m, λ e. rw e)
 
--- the job that runs is not ended in its own tick
-pub runs-unended : (g : Given) (r : Record) (e : ℕ) → e < jobCount (g .jobs) → jobCount (g .jobs) ≤ 64 → dispatched g r e ≡ true → ends g r e e ≡ false
-unfolding dispatched
-runs-unended g r e l few d = go (or-cases (ltb e (jobCount (g .jobs)) && candidate g r e) _ d)
-  where
-    go : ((ltb e (jobCount (g .jobs)) && candidate g r e) ≡ true) ⊎ ((eqb e idle && not (someJob g (candidate g r))) ≡ true) → ends g r e e ≡ false
-    go (inl c) = eligible-unended g r e e (candidate-eligible g r e (search passed))
-    go (inr c) = let i : e ≡ idle = search passed in absurd (omega arith)
+-- what the tick does, its entry e being given
+module _ (g : Given) (r : Record) (e : ℕ) where
+  -- the job that ran has one more tick done, and no other has
+  pub done-ran : (j : ℕ) → e ≡ j → doneAfter g r e j ≡ suc (doneAt r j)
+  unfolding doneAfter
+  done-ran j q = rw (eq-eqb e j q) (omega arith)
+
+  pub done-idle : (j : ℕ) → e ≢ j → doneAfter g r e j ≡ doneAt r j
+  unfolding doneAfter
+  done-idle j n = rw (ne-eqb e j n) (omega arith)
+
+  pub done-most : (j : ℕ) → doneAfter g r e j ≤ suc (doneAt r j)
+  unfolding doneAfter
+  done-most j = by-cond (λ n. doneAt r j + n ≤ suc (doneAt r j)) (eqb e j) 1 0 (λ q. omega arith) (λ q. omega arith)
+
+  -- a job that is not alive does not run
+  pub done-dead : candidateOrIdle g r e ≡ true → (j : ℕ) → j < 64 → alive r j ≡ false → doneAfter g r e j ≡ doneAt r j
+  done-dead d j l a = done-idle j (λ q. clash (eligible-alive g r j (runs-eligible g r e j d l q)) a)
+
+  -- what becomes of a job alive in the tick: it finishes, or is ended, or neither
+  pub finishing : (j : ℕ) → finishes g r e j ≡ true ↔ (e ≡ j) × (doneAfter g r e j ≡ execution (g .lists .jobs) j)
+  unfolding finishes
+  finishing j = and-reads (eq-reads e j) (eq-reads _ _)
+
+  pub goes-on : (P : Standing → Type 0) (j : ℕ) → (e ≡ j → doneAfter g r e j ≡ execution (g .lists .jobs) j → P (Finished (suc (r .tick))))
+      → (finishes g r e j ≡ false → ends g r e j ≡ true → P (Ended (r .tick)))
+      → (finishes g r e j ≡ false → ends g r e j ≡ false → P Unfinished)
+      → P (goesOn g r e j)
+  unfolding goesOn
+  goes-on P j finished ended neither =
+      by-cond P (finishes g r e j) _ _ (λ x. let w = finishing j .0 x in finished (w .0) (w .1))
+      (λ x. by-cond P (ends g r e j) _ _ (ended x) (neither x))
+
+  -- the job that is ended is strictly less critical than some job past zero slack, in mode SE
+  pub record EndedBy (j i : ℕ) : Type 0 where
+    pub job : i < jobCount (g .lists .jobs)
+    pub se : g .mode ≡ SE
+    pub past : pastZeroSlack g r i ≡ true
+    pub more : jobCriticality (g .lists) j < jobCriticality (g .lists) i
+
+  pub ends-by : (j : ℕ) → ends g r e j ≡ true → (i : ℕ) × EndedBy j i
+  unfolding ends someJob over moreCritical
+  ends-by j h =
+      let w = some-found (λ i. over g r e i && moreCritical g i j) (jobCount (g .lists .jobs)) (search passed) in
+      let x = w .1 in
+      let y = w .2 in
+      (w .0, search (passed, is-SE) depth 7)
+
+  -- no eligible job is ended in its tick
+  pub eligible-unended : (j : ℕ) → eligible g r j ≡ true → ends g r e j ≡ false
+  eligible-unended j h =
+      fails (ends g r e j) (λ x. let w = ends-by j x in omega (arith, w .1 .more, eligible-exactly g r j .0 h .1 (w .0) (w .1 .job) (w .1 .past)))

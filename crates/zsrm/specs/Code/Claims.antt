@@ -14,34 +14,34 @@ use Rattle.zsrm.specs.declared.record.Record.{Record}
 use Rattle.zsrm.specs.declared.tick.View.{View}
 use Rattle.zsrm.specs.declared.claims.Tried.{Tried}
 use Rattle.zsrm.specs.declared.claims.Replayed.{Replayed}
-use Rattle.zsrm.specs.declared.answers.Claim.the-variants.{Legal}
-use Rattle.zsrm.specs.Tables.{Given, idle, jobCount, arrival, jobNominal, zeroSlackInstant}
+use Rattle.zsrm.specs.Given.{Given}
+use Rattle.tables.specs.Tables.{idle, jobCount, arrival, jobNominal, zeroSlackInstant, Lists}
 use Rattle.zsrm.specs.Tick.{advanced}
 use Rattle.zsrm.specs.Code.View.{hasPriority}
 use Rattle.zsrm.specs.Run.{replayed}
-use Rattle.zsrm.specs.Legal.{finishedAt, legalEntry, claim}
+use Rattle.zsrm.specs.Legal.{finishedAt, legalEntry, legalLength}
 
-module _ (g : Given) where
+module _ (l : Lists) where
   -- job j, at the place p, makes tick t a scheduling instant, the entry before being last
-  unfoldable pub turnsAt : Bool → ℕ → ℕ → ℕ → Place → Bool
-  turnsAt se last t j p =
-      eqb (arrival (g .jobs) j) t || finishedAt t (p .standing) || eqb (zeroSlackInstant g j) t
-      || (se && eqb last j && eqb (p .done) (jobNominal g j))
+  unfoldable pub instantAt : Bool → ℕ → ℕ → ℕ → Place → Bool
+  instantAt se last t j p =
+      eqb (arrival (l .jobs) j) t || finishedAt t (p .standing) || eqb (zeroSlackInstant l j) t
+      || (se && eqb last j && eqb (p .done) (jobNominal l j))
 
   -- an eligible job of the top priority that is ready, or idle where none is ready
-  unfoldable pub mayRun : View → ℕ → Bool
-  mayRun v e =
-      (ltb e (jobCount (g .jobs)) && hasPriority g (v .eligible) (greatest 64 (bit (v .ready)) 64) e)
+  unfoldable pub topOrIdle : View → ℕ → Bool
+  topOrIdle v e =
+      (ltb e (jobCount (l .jobs)) && hasPriority l (v .eligible) (greatest 64 (bit (v .ready)) 64) e)
       || (eqb e idle && eqb (v .ready) 0)
 
-  -- whether the entry is legal, and the record that it leads to
-  unfoldable pub tried : Record → ℕ → ℕ → Tried
-  tried r last e = record { legal = legalEntry g r last e; «record» = cond (legalEntry g r last e) (advanced g r e) r }
+-- whether the entry is legal, and the record that it leads to
+unfoldable pub tried : Given → Record → ℕ → ℕ → Tried
+tried g r last e = record { legal = legalEntry g r last e; «record» = cond (legalEntry g r last e) (advanced g r e) r }
 
--- what replaying a schedule finds, and where it is legal the record at its end
+-- how many entries replaying a schedule finds legal, and where all are, the record at its end
 pub record ReplayedAs (g : Given) (schedule : List ℕ) (r : Replayed) : Type 0 where
-  pub says : r .claim ≡ claim g schedule
-  pub ends : claim g schedule ≡ Legal → r .«record» ≡ replayed g schedule
+  pub ticks : r .ticks ≡ legalLength g schedule
+  pub ends : legalLength g schedule ≡ length schedule → r .«record» ≡ replayed g schedule
 
 -- a finishing instant that lies within the schedule, at or after arrival: what the code asks before it takes the part
 abbrev pub FitsIn : ℕ → List ℕ → Standing → Type 0

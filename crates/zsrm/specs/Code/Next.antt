@@ -9,7 +9,7 @@ use Rattle.zsrm.specs.declared.record.Standing.{Standing}
 use Rattle.zsrm.specs.declared.record.Standing.the-variants.{NotArrived, Unfinished, Finished, Ended}
 use Rattle.zsrm.specs.declared.record.Place.{Place}
 use Rattle.zsrm.specs.declared.record.Record.{Record}
-use Rattle.zsrm.specs.Tables.{jobCount, arrival, execution}
+use Rattle.tables.specs.Tables.{jobCount, arrival, execution}
 use Rattle.zsrm.specs.Record.{placeAt}
 
 -- at t, a place at which nothing has run: a job's that arrives at a and has c to do, or none's

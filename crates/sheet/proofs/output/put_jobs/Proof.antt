@@ -3,13 +3,13 @@ use Prim.Native.Nat.{_-_, _/_, _≤_}
 use mathlib.Core.Path.{_≡_}
 use native.Mathlib.Omega.{arith}
 use lib.ListN.{length}
-use Rattle.zsrm.specs.Answers.{given}
-use Rattle.zsrm.specs.Tables.{jobCount}
+use Rattle.tables.specs.Tables.{jobCount}
 use Rattle.sheet.specs.Listing.{jobLines}
 use Rattle.sheet.specs.Wrote.{Wrote}
 use Rattle.sheet.proofs.Lines.{wrote-length, wrote-none}
 use Rattle.sheet.proofs.Runs.{few, jobs-length, wrote-jobs}
 use Rattle.sheet.proofs.output.put_jobs.Statement.{statement}
+use Rattle.zsrm.specs.Given.{given}
 use Rattle.sheet.proofs.output.put_jobs.Tie as tie
 
 abbrev Inv-loop : tie.InvT-loop

@@ -4,11 +4,5 @@ use borrow.Author.Needs.{needs}
 use Rattle.trials.proofs.altered.fitting_record.Statement.{statement}
 use Rattle.trials.proofs.altered.fitting_record.Tie as tie
 
-abbrev Inv-loop : tie.InvT-loop
-Inv-loop rec trial se jobs next₀ j₀ next j = 0 ≤ 0
-
-abbrev μ-loop : tie.MeasureT-loop
-μ-loop rec trial se jobs next₀ j₀ next j = 64 - j
-
 pub fitting-record-spec : {M : Type 1} → statement M
-fitting-record-spec = tie.close (tie.spec Inv-loop μ-loop (λ c. search needs) (λ c κs. search needs) (λ c. search needs) (λ c. search needs) (λ c. search needs) (λ c. search needs) (λ c. search needs) (λ c. search needs))
+fitting-record-spec = tie.close (tie.spec (λ _ _ _ _ _ _ _. 0 ≤ 0) (λ _ _ _ _ _ _ j. 64 - j) (search needs) (search needs) (search needs) (search needs) (search needs) (search needs) (search needs) (search needs))

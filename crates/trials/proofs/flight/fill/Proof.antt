@@ -4,11 +4,5 @@ use borrow.Author.Needs.{needs}
 use Rattle.trials.proofs.flight.fill.Statement.{statement}
 use Rattle.trials.proofs.flight.fill.Tie as tie
 
-abbrev Inv-loop : tie.InvT-loop
-Inv-loop from to entry next₀ t₀ next t = 0 ≤ 0
-
-abbrev μ-loop : tie.MeasureT-loop
-μ-loop from to entry next₀ t₀ next t = to - t
-
 pub fill-spec : {M : Type 1} → statement M
-fill-spec = tie.close (tie.spec Inv-loop μ-loop (λ c. search needs) (λ c. search needs) (λ c. search needs) (λ c. search needs) (λ c. search needs) (λ c. search needs) (λ c. search needs) (λ c. search needs))
+fill-spec = tie.close (tie.spec (λ _ _ _ _ _ _ _. 0 ≤ 0) (λ _ _ to _ _ _ t. to - t) (search needs) (search needs) (search needs) (search needs) (search needs) (search needs) (search needs) (search needs))

@@ -4,11 +4,5 @@ use borrow.Author.Needs.{needs}
 use Rattle.trials.proofs.flight.stretch_end.Statement.{statement}
 use Rattle.trials.proofs.flight.stretch_end.Tie as tie
 
-abbrev Inv-loop : tie.InvT-loop
-Inv-loop line from horizon t₀ t = 0 ≤ 0
-
-abbrev μ-loop : tie.MeasureT-loop
-μ-loop line from horizon t₀ t = horizon - t
-
 pub stretch-end-spec : {M : Type 1} → statement M
-stretch-end-spec = tie.close (tie.spec Inv-loop μ-loop (λ c. search needs) (λ c. search needs) (λ c κs. search needs) (λ c κs. search needs) (λ c. search needs) (λ c. search needs) (λ c. search needs) (λ c. search needs) (λ c. search needs))
+stretch-end-spec = tie.close (tie.spec (λ _ _ _ _ _. 0 ≤ 0) (λ _ _ horizon _ t. horizon - t) (search needs) (search needs) (search needs) (search needs) (search needs) (search needs) (search needs) (search needs) (search needs))

@@ -4,11 +4,5 @@ use borrow.Author.Needs.{needs}
 use Rattle.trials.proofs.groups.trials.Statement.{statement}
 use Rattle.trials.proofs.groups.trials.Tie as tie
 
-abbrev Inv-loop : tie.InvT-loop
-Inv-loop kind se n even first t₀ i₀ t i = 0 ≤ 0
-
-abbrev μ-loop : tie.MeasureT-loop
-μ-loop kind se n even first t₀ i₀ t i = n - i
-
 pub trials-spec : {M : Type 1} → statement M
-trials-spec = tie.close (tie.spec Inv-loop μ-loop (λ c. search needs) (λ c. search needs) (λ c κs. search needs) (λ c. search needs) (λ c κs. search needs) (λ c κs. search needs) (λ c. search needs) (λ c. search needs) (λ c. search needs) (λ c. search needs))
+trials-spec = tie.close (tie.spec (λ _ _ _ _ _ _ _ _ _. 0 ≤ 0) (λ _ _ _ n _ _ _ _ i. n - i) (search needs) (search needs) (search needs) (search needs) (search needs) (search needs) (search needs) (search needs) (search needs))

@@ -4,11 +4,5 @@ use borrow.Author.Needs.{needs}
 use Rattle.trials.proofs.judge.tasks_key.Statement.{statement}
 use Rattle.trials.proofs.judge.tasks_key.Tie as tie
 
-abbrev Inv-loop : tie.InvT-loop
-Inv-loop tasks n key₀ k₀ key k = 0 ≤ 0
-
-abbrev μ-loop : tie.MeasureT-loop
-μ-loop tasks n key₀ k₀ key k = 16 - k
-
 pub tasks-key-spec : {M : Type 1} → statement M
-tasks-key-spec = tie.close (tie.spec Inv-loop μ-loop (λ c κs. search needs) (λ c. search needs) (λ c. search needs) (λ c κs. search needs) (λ c κs. search needs) (λ c. search needs) (λ c. search needs) (λ c. search needs) (λ c. search needs))
+tasks-key-spec = tie.close (tie.spec (λ _ _ _ _ _ _. 0 ≤ 0) (λ _ _ _ _ _ k. 16 - k) (search needs) (search needs) (search needs) (search needs) (search needs) (search needs) (search needs) (search needs) (search needs))

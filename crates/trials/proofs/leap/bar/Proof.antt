@@ -4,11 +4,5 @@ use borrow.Author.Needs.{needs}
 use Rattle.trials.proofs.leap.bar.Statement.{statement}
 use Rattle.trials.proofs.leap.bar.Tie as tie
 
-abbrev Inv-loop : tie.InvT-loop
-Inv-loop tasks jobs s most₀ j₀ most j = 0 ≤ 0
-
-abbrev μ-loop : tie.MeasureT-loop
-μ-loop tasks jobs s most₀ j₀ most j = 64 - j
-
 pub bar-spec : {M : Type 1} → statement M
-bar-spec = tie.close (tie.spec Inv-loop μ-loop (λ c. search needs) (λ c. search needs) (λ c. search needs) (λ c κs. search needs) (λ c. search needs) (λ c. search needs) (λ c. search needs) (λ c. search needs))
+bar-spec = tie.close (tie.spec (λ _ _ _ _ _ _ _. 0 ≤ 0) (λ _ _ _ _ _ _ j. 64 - j) (search needs) (search needs) (search needs) (search needs) (search needs) (search needs) (search needs) (search needs))

@@ -4,11 +4,5 @@ use borrow.Author.Needs.{needs}
 use Rattle.trials.proofs.leap.ready_now.Statement.{statement}
 use Rattle.trials.proofs.leap.ready_now.Tie as tie
 
-abbrev Inv-loop : tie.InvT-loop
-Inv-loop tasks jobs s high word₀ ones₀ j₀ word ones j = 0 ≤ 0
-
-abbrev μ-loop : tie.MeasureT-loop
-μ-loop tasks jobs s high word₀ ones₀ j₀ word ones j = 64 - j
-
 pub ready-now-spec : {M : Type 1} → statement M
-ready-now-spec = tie.close (tie.spec Inv-loop μ-loop (λ c κs. search needs) (λ c. search needs) (λ c. search needs) (λ c. search needs) (λ c κs. search needs) (λ c κs. search needs) (λ c. search needs) (λ c. search needs) (λ c. search needs) (λ c. search needs) (λ c. search needs) (λ c. search needs) (λ c. search needs) (λ c. search needs) (λ c. search needs))
+ready-now-spec = tie.close (tie.spec (λ _ _ _ _ _ _ _ _. 0 ≤ 0) (λ _ _ _ _ _ _ _ j. 64 - j) (search needs) (search needs) (search needs) (search needs) (search needs) (search needs) (search needs) (search needs) (search needs) (search needs) (search needs))

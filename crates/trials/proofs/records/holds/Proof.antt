@@ -4,11 +4,5 @@ use borrow.Author.Needs.{needs}
 use Rattle.trials.proofs.records.holds.Statement.{statement}
 use Rattle.trials.proofs.records.holds.Tie as tie
 
-abbrev Inv-loop : tie.InvT-loop
-Inv-loop jobs rec s same₀ j₀ same j = 0 ≤ 0
-
-abbrev μ-loop : tie.MeasureT-loop
-μ-loop jobs rec s same₀ j₀ same j = 64 - j
-
 pub holds-spec : {M : Type 1} → statement M
-holds-spec = tie.close (tie.spec Inv-loop μ-loop (λ c. search needs) (λ c. search needs) (λ c. search needs) (λ c. search needs) (λ c. search needs) (λ c. search needs) (λ c. search needs) (λ c κs. search needs) (λ c. search needs) (λ c. search needs) (λ c. search needs) (λ c. search needs))
+holds-spec = tie.close (tie.spec (λ _ _ _ _ _ _ _. 0 ≤ 0) (λ _ _ _ _ _ _ j. 64 - j) (search needs) (search needs) (search needs) (search needs) (search needs) (search needs) (search needs) (search needs) (search needs) (search needs) (search needs) (search needs))

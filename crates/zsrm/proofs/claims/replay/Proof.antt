@@ -4,8 +4,8 @@ use mathlib.Core.Path.{refl, sym, _∙_}
 use native.Mathlib.Omega.{arith}
 use lib.ListN.{length}
 use borrow.Author.Needs.{needs}
-use Rattle.zsrm.specs.Answers.{given}
-use Rattle.zsrm.proofs.Laws.Claims.{Replaying, replaying-none, replaying-more, replaying-stops, replaying-ends, replayed-stopped, tried-says}
+use Rattle.zsrm.specs.Given.{given}
+use Rattle.zsrm.proofs.Laws.Claims.{Replaying, replaying-none, replaying-more, replaying-stops, replaying-ends, tried-says}
 use Rattle.zsrm.proofs.claims.replay.Statement.{statement}
 use Rattle.zsrm.proofs.claims.replay.Tie as tie
 
@@ -40,16 +40,13 @@ returns c =
     let g = given (start .args .mode) (start .args .tasks .now) (start .args .jobs .now) in
     let at = c .before .before .before .before .before in
     let s = tried-says g (at .loop .rec) (at .loop .last) _ _ (c .before .before .try-entry .ensures) in
-    replayed-stopped g (start .args .schedule .now) (at .loop .t) _
-    (replaying-stops g (start .args .schedule .now) (at .loop .rec) (at .loop .last) (at .loop .t) _ (at .loop .inv .1) (c .before .before .before .before .loop-test .taken) refl (sym (s .0) ∙ c .if1 .left))
+    replaying-stops g (start .args .schedule .now) (at .loop .rec) _ (at .loop .last) (at .loop .t) _ (at .loop .inv .1) (c .before .before .before .before .loop-test .taken) refl (sym (s .0) ∙ c .if1 .left)
 
 returns-2 : tie.Need-returns-2 Inv-loop μ-loop
 returns-2 c =
-    let start = c .before .before .before .before .before .before in
     let at = c .before in
-    let w = replaying-ends (given (start .args .mode) (start .args .tasks .now) (start .args .jobs .now)) (start .args .schedule .now) (at .loop .rec) (at .loop .last) (at .loop .t) (at .loop .inv .1) (omega arith) in
-    record { says = sym (w .0); ends = λ _. sym (w .1) }
+    replaying-ends _ _ (at .loop .rec) (at .loop .last) (at .loop .t) (at .loop .inv .1) (omega arith)
 
 pub replay-spec : {M : Type 1} → statement M
 replay-spec =
-    tie.close (tie.spec Inv-loop μ-loop (λ c κs. search needs) loop-holds (λ c. search needs) (λ c. search needs) try-entry-requires (λ c. search needs) (λ c. search needs) loop-again (λ c. let limit = c .before .before .before .before .before .before .before .before .before .before .pre .1 in let more = c .before .before .before .before .loop-test .taken in search needs) returns returns-2)
+    tie.close (tie.spec Inv-loop μ-loop (λ c κs. search needs) loop-holds (λ c. search needs) (λ c. search needs) try-entry-requires (λ c. search needs) (λ c. search needs) loop-again (λ c. let limit = c .before .before .before .before .before .before .before .before .before .before .pre .1 in let more = c .before .before .before .before .loop-test .taken in search needs) returns (λ c. let limit = c .before .before .before .before .before .before .pre .1 in search needs) returns-2)

@@ -4,7 +4,7 @@ use mathlib.Core.Path.{ap₂}
 use mathlib.Core.Bool.{_&&_}
 use lib.Dec.{leb, ltb}
 use borrow.Author.Needs.{needs}
-use Rattle.zsrm.specs.declared.tables.Job.{Job}
+use Rattle.tables.specs.declared.fields.Job.{Job}
 use Rattle.zsrm.specs.Record.{arrived}
 use Rattle.zsrm.proofs.record.has_arrived.Statement.{statement}
 use Rattle.zsrm.proofs.record.has_arrived.Tie as tie

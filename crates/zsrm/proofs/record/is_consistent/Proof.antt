@@ -1,5 +1,5 @@
 -- The loop has gathered whether every place below j is sound.
-use Prim.Native.Nat.{_-_, _≤_}
+use Prim.Native.Nat.{_-_, _≤_, ℕ}
 use mathlib.Core.Path.{_≡_, refl, ap, _∙_}
 use mathlib.Core.Bool.{Bool, _&&_}
 use native.Mathlib.Omega.{arith}
@@ -8,8 +8,7 @@ use borrow.Author.Needs.{needs}
 use Rattle.bits.specs.Below.{every}
 use Rattle.bits.proofs.Below.{every-on}
 use Rattle.zsrm.specs.Record.{placeAt, doneAt, standingAt, soundAt, consistent}
-use Rattle.zsrm.specs.Answers.{given}
-use Prim.Native.Nat.{ℕ}
+use Rattle.zsrm.specs.Given.{given}
 use Rattle.zsrm.proofs.record.is_consistent.Statement.{statement}
 use Rattle.zsrm.proofs.record.is_consistent.Tie as tie
 

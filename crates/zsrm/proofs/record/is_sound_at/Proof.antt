@@ -2,9 +2,9 @@
 use mathlib.Core.Path.{ap, ap₂, _∙_}
 use mathlib.Core.Bool.{Bool}
 use borrow.Author.Needs.{needs}
-use Rattle.zsrm.specs.declared.tables.Job.{Job}
-use Rattle.zsrm.specs.Tables.{arrival, execution}
-use Rattle.zsrm.specs.Record.{isSE, soundPlace}
+use Rattle.tables.specs.declared.fields.Job.{Job}
+use Rattle.zsrm.specs.Given.{isSE}
+use Rattle.zsrm.specs.Record.{soundPlace}
 use Rattle.zsrm.proofs.record.is_sound_at.Statement.{statement}
 use Rattle.zsrm.proofs.record.is_sound_at.Tie as tie
 

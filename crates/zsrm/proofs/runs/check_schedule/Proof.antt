@@ -1,22 +1,17 @@
 -- The checks in their order, as the calls answer them.
-use Prim.Native.Nat.{ℕ}
-use mathlib.Core.Path.{sym, ap, ap₂, _∙_}
-use mathlib.Core.Bool.{not}
-use lib.Dec.{eqb}
+use mathlib.Core.Path.{ap₂, _∙_}
 use borrow.Author.Needs.{needs}
-use Rattle.zsrm.specs.Refusals.{refuse, before, check10}
-use Rattle.zsrm.specs.Answers.{checkGiven, checkSchedule}
+use Rattle.tables.specs.Refusals.{before}
+use Rattle.zsrm.specs.Answers.{checkSchedule}
 use Rattle.zsrm.proofs.runs.check_schedule.Statement.{statement}
 use Rattle.zsrm.proofs.runs.check_schedule.Tie as tie
 
 returns : tie.Need-returns
-unfolding checkSchedule checkGiven check10
-returns c m s e =
-    let start = c .before .before .before .before .before .before .before in
+unfolding checkSchedule
+returns c =
     c .before3 .ensures
-    ∙ ap₂ before (c .before .before .before .check-lists .ensures)
-    (c .before .before2 .ensures
-    ∙ ap₂ before (c .before .before .check9 .ensures) (c .before .before .before .before .refuse .ensures ∙ ap (λ (n : ℕ). refuse (not (eqb n (start .args .horizon))) 10 0) (sym e)))
+    ∙ ap₂ before (c .before .before .before .before .check-lists .ensures)
+    (c .before .before2 .ensures ∙ ap₂ before (c .before .before .before .check9 .ensures) (c .before .before .check10 .ensures))
 
 pub check-schedule-spec : {M : Type 1} → statement M
 check-schedule-spec = tie.close (tie.spec (λ c κs. search needs) (λ c κs. search needs) (λ c κs. search needs) (λ c κs. search needs) (λ c κs. search needs) returns)

@@ -1,13 +1,14 @@
 -- The checks in their order, as the calls answer them.
 use mathlib.Core.Path.{ap, ap₂, _∙_}
 use borrow.Author.Needs.{needs}
-use Rattle.zsrm.specs.Refusals.{before, check11, check12}
-use Rattle.zsrm.specs.Answers.{checkGiven, checkStep}
+use Rattle.tables.specs.Refusals.{before}
+use Rattle.zsrm.specs.Record.{check11}
+use Rattle.zsrm.specs.Answers.{checkStep}
 use Rattle.zsrm.proofs.step.check_step.Statement.{statement}
 use Rattle.zsrm.proofs.step.check_step.Tie as tie
 
 returns : tie.Need-returns
-unfolding checkStep checkGiven
+unfolding checkStep
 returns c =
     c .before3 .ensures
     ∙ ap₂ before (c .before .before .before .check-lists .ensures)

@@ -2,7 +2,7 @@
 use mathlib.Core.Path.{ap}
 use borrow.Author.Needs.{needs}
 use Rattle.zsrm.specs.declared.record.Record.{Record}
-use Rattle.zsrm.specs.declared.answers.Outcome.the-variants.{Refused}
+use Rattle.tables.specs.declared.outcome.Outcome.the-variants.{Refused}
 use Rattle.zsrm.specs.declared.answers.Stepped.{Stepped}
 use Rattle.zsrm.specs.Answers.{refusedStep}
 use Rattle.zsrm.proofs.step.refused_step.Statement.{statement}

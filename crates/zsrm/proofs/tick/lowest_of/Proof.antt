@@ -6,8 +6,7 @@ use native.Mathlib.Omega.{arith}
 use borrow.Author.Needs.{needs}
 use Rattle.bits.specs.Below.{some}
 use Rattle.bits.proofs.Below.{least-is, least-none, scan-on, scan-end}
-use Rattle.zsrm.specs.Tables.{idle}
-use Rattle.zsrm.specs.Code.Fields.{lists}
+use Rattle.tables.specs.Tables.{idle, lists}
 use Rattle.zsrm.specs.Code.View.{hasPriority, lowestOf}
 use Rattle.zsrm.proofs.tick.lowest_of.Statement.{statement}
 use Rattle.zsrm.proofs.tick.lowest_of.Tie as tie

@@ -1,15 +1,13 @@
 -- The loop has collected the jobs below j that are in the set and overrun.
-use Prim.Native.Nat.{_-_, _≤_}
+use Prim.Native.Nat.{_-_, _≤_, ℕ}
 use mathlib.Core.Path.{_≡_, sym}
 use native.Mathlib.Omega.{arith}
 use borrow.Author.Needs.{needs}
 use Rattle.bits.specs.Below.{word}
 use Rattle.bits.proofs.Word.{upTo, upTo-none, collect}
-use Prim.Native.Nat.{ℕ}
 use mathlib.Core.Bool.{Bool}
 use Rattle.zsrm.specs.declared.record.Record.{Record}
-use Rattle.zsrm.specs.Tables.{Given}
-use Rattle.zsrm.specs.Code.Fields.{lists}
+use Rattle.tables.specs.Tables.{Lists, lists}
 use Rattle.zsrm.specs.Record.{placeAt, doneAt}
 use Rattle.zsrm.specs.Code.View.{overruns, overrunWord}
 use Rattle.zsrm.proofs.Laws.View.{collected}
@@ -17,8 +15,8 @@ use Rattle.zsrm.proofs.tick.overrun_word.Statement.{statement}
 use Rattle.zsrm.proofs.tick.overrun_word.Tie as tie
 
 -- job j overruns in the record
-abbrev test : Given → Record → ℕ → ℕ → ℕ → Bool
-test g r among e j = overruns g among e j (doneAt r j)
+abbrev test : Lists → Record → ℕ → ℕ → ℕ → Bool
+test l r among e j = overruns l among e j (doneAt r j)
 
 abbrev Inv-loop : tie.InvT-loop
 Inv-loop among entry tasks jobs rec n word₀ j₀ w j = (j ≤ n) × (w ≡ word 64 (upTo (test (lists tasks jobs) rec among entry) j))

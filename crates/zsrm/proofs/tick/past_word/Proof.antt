@@ -5,7 +5,7 @@ use native.Mathlib.Omega.{arith}
 use borrow.Author.Needs.{needs}
 use Rattle.bits.specs.Below.{word}
 use Rattle.bits.proofs.Word.{upTo, upTo-none, collect}
-use Rattle.zsrm.specs.Code.Fields.{lists}
+use Rattle.tables.specs.Tables.{lists}
 use Rattle.zsrm.specs.Code.View.{pastWord, isPast}
 use Rattle.zsrm.proofs.Laws.View.{collected}
 use Rattle.zsrm.proofs.tick.past_word.Statement.{statement}

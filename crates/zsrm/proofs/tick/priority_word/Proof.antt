@@ -1,15 +1,13 @@
 -- The loop has collected the priorities of the jobs below j that are in the set.
-use Prim.Native.Nat.{_-_, _≤_}
+use Prim.Native.Nat.{_-_, _≤_, ℕ}
 use mathlib.Core.Path.{_≡_, sym, ap, _∙_}
 use native.Mathlib.Omega.{arith}
 use borrow.Author.Needs.{needs}
 use Rattle.bits.specs.Below.{word, bit}
 use Rattle.bits.proofs.Word.{keyed, keyed-none, keyed-collect}
-use Rattle.zsrm.specs.Tables.{jobPriority}
-use Rattle.zsrm.specs.Code.Fields.{lists}
+use Rattle.tables.specs.Tables.{jobPriority, lists}
 use Rattle.zsrm.specs.Tick.{someJob}
 use Rattle.zsrm.specs.Code.View.{hasPriority, priorityWord}
-use Prim.Native.Nat.{ℕ}
 use mathlib.Core.Bool.{cond}
 use Rattle.bits.specs.Word.{withBit}
 use Rattle.zsrm.proofs.tick.priority_word.Statement.{statement}

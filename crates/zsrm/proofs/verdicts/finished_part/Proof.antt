@@ -1,5 +1,5 @@
 -- A finishing instant lies within the schedule, at or after arrival; every other standing has the empty part.
-use Prim.Native.Nat.{_+_, _*_, _-_, ℕ, _≤_}
+use Prim.Native.Nat.{_+_, _-_, ℕ, _≤_}
 use mathlib.Core.Path.{_≡_, refl, ap, subst}
 use mathlib.Core.List.{List, [], _∷_}
 use mathlib.Core.Logic.{_⊎_, inl, inr}
@@ -10,9 +10,9 @@ use denote.Enum.Declared.{tagOf}
 use borrow.Author.Needs.{needs}
 use Rattle.zsrm.specs.declared.record.Standing.{Standing}
 use Rattle.zsrm.specs.declared.record.Standing.the-variants.{NotArrived, Unfinished, Finished, Ended}
-use Rattle.zsrm.specs.declared.tables.Job.{Job}
-use Rattle.zsrm.specs.Tables.{arrival}
-use Rattle.zsrm.specs.Code.Fields.{jobAt}
+use Rattle.tables.specs.declared.fields.Job.{Job}
+use Rattle.tables.specs.Tables.{arrival}
+use Rattle.tables.specs.Fields.{jobAt}
 use Rattle.zsrm.specs.Verdict.{Shows, partTo}
 use Rattle.zsrm.specs.Code.Claims.{FitsIn}
 use Rattle.zsrm.proofs.record.Standing.{the-type}

@@ -1,9 +1,11 @@
 -- What the checks answer decides: the tick, or the blank answer.
 use mathlib.Core.Path.{sym, _∙_}
 use borrow.Author.Needs.{needs}
-use Rattle.zsrm.specs.Answers.{given, refusedStep, stepped, checkStep, stepAnswer}
-use Rattle.zsrm.proofs.Laws.Answers.{unless-done, unless-refused, steps}
+use Rattle.zsrm.specs.Given.{given}
+use Rattle.zsrm.specs.Answers.{refusedStep, stepped, checkStep, stepAnswer}
+use Rattle.zsrm.proofs.Laws.Answers.{steps}
 use Rattle.zsrm.proofs.record.Record.step.Statement.{statement}
+use Rattle.tables.proofs.Laws.Refusals.{unless-done, unless-refused}
 use Rattle.zsrm.proofs.record.Record.step.Tie as tie
 
 advance-requires : tie.Need-advance-requires

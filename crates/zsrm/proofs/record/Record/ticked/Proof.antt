@@ -2,11 +2,11 @@
 use mathlib.Core.Path.{ap, _∙_}
 use native.Mathlib.Omega.{arith}
 use borrow.Author.Needs.{needs}
-use Rattle.zsrm.specs.Answers.{given}
+use Rattle.zsrm.specs.Given.{given}
 use Rattle.zsrm.specs.Code.Next.{nextRecord}
 use Rattle.zsrm.proofs.Laws.View.{ended-seen}
 use Rattle.zsrm.proofs.Laws.Next.{next-advanced}
-use Rattle.zsrm.proofs.Laws.Ranges.{in-range}
+use Rattle.zsrm.proofs.Laws.Consistent.{consistent-tick, done-tick}
 use Rattle.zsrm.proofs.record.Record.ticked.Statement.{statement}
 use Rattle.zsrm.proofs.record.Record.ticked.Tie as tie
 
@@ -15,8 +15,8 @@ returns c =
     let start = c .before .before .before .before in
     let a = start .args in
     let few = start .pre .0 .0 in
-    let ends = c .before .ended-word .ensures ∙ ended-seen (start .args .mode) (start .args .tasks .now) (start .args .jobs .now) few (a .self) (a .seen) (a .entry) (start .pre .1 .1 .1) in
+    let ends = c .before .ended-word .ensures ∙ ended-seen (given (start .args .mode) (start .args .tasks .now) (start .args .jobs .now)) (a .self) (a .seen) (a .entry) few (start .pre .1 .1 .1) in
     (c .after .ensures ∙ ap (nextRecord (a .jobs .now) (a .self) (a .entry)) ends ∙ next-advanced (given (start .args .mode) (start .args .tasks .now) (start .args .jobs .now)) (a .self) (a .entry) few (start .pre .1 .0) (start .pre .1 .1 .0), ends)
 
 pub ticked-spec : {M : Type 1} → statement M
-ticked-spec = tie.close (tie.spec (λ c κs. search needs) (λ c κs. let start = c .before .before .before in (start .pre .0 .0, start .pre .0 .1, λ j l. let w = in-range (given (start .args .mode) (start .args .tasks .now) (start .args .jobs .now)) (start .args .self) (start .pre .1 .0) j l in omega arith)) returns)
+ticked-spec = tie.close (tie.spec (λ c κs. search needs) (λ c κs. let start = c .before .before .before in (start .pre .0 .0, start .pre .0 .1, λ j l. let g = given (start .args .mode) (start .args .tasks .now) (start .args .jobs .now) in omega (arith, consistent-tick g (start .args .self) (start .pre .1 .0), done-tick g (start .args .self) (start .pre .1 .0) j l))) returns)

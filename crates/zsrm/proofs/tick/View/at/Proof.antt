@@ -1,6 +1,6 @@
 -- Each word is made from those before it, as the definition has it.
 use borrow.Author.Needs.{needs}
-use Rattle.zsrm.specs.Code.Fields.{lists}
+use Rattle.tables.specs.Tables.{lists}
 use Rattle.zsrm.proofs.Laws.View.{view-made}
 use Rattle.zsrm.proofs.tick.View.at.Statement.{statement}
 use Rattle.zsrm.proofs.tick.View.at.Tie as tie
@@ -10,4 +10,4 @@ at-spec =
     tie.close
     (tie.spec (λ c κs. search needs) (λ c κs. search needs) (λ c κs. search needs) (λ c κs. search needs) (λ c κs. search needs)
     (λ c. let start = c .before .before .before .before .before .before .before in
-    view-made (lists (start .args .tasks .now) (start .args .jobs .now)) (start .args .rec) _ _ _ _ _ (c .before .before .before .before .alive-word .ensures) (c .before .before .before .past-word .ensures) (c .before .before .below-word .ensures) (c .before .without .ensures) (c .priority-word .ensures)))
+    view-made (lists (start .args .tasks .now) (start .args .jobs .now)) (start .args .rec) _ _ _ _ _ (c .before .before .before .before .alive-word .ensures) (c .before .before .before .past-word .ensures) (c .before .before .less-critical-word .ensures) (c .before .without .ensures) (c .priority-word .ensures)))

@@ -1,7 +1,7 @@
 -- The highest bit of the ready word is the top priority.
 use mathlib.Core.Path.{ap, _∙_}
 use borrow.Author.Needs.{needs}
-use Rattle.zsrm.specs.Code.Fields.{lists}
+use Rattle.tables.specs.Tables.{lists}
 use Rattle.zsrm.specs.Code.View.{lowestOf, chosen}
 use Rattle.zsrm.proofs.tick.View.choice.Statement.{statement}
 use Rattle.zsrm.proofs.tick.View.choice.Tie as tie

@@ -1,0 +1,5 @@
+pub mod Tables
+pub mod Refusals
+pub mod Bytes
+pub mod Said
+pub mod Fields

@@ -1,0 +1,28 @@
+// Document 01, "Tables and lists" and the refusals that task tables, job lists, horizons and schedule lengths meet: what every entry point
+// that is given such lists checks first, and how their numbers are read. Knows no mode and no record.
+mod bytes;
+mod fields;
+mod outcome;
+mod refusals;
+
+pub use bytes::number_at;
+pub use fields::Criticality;
+pub use fields::IDLE;
+pub use fields::Job;
+pub use fields::Priority;
+pub use fields::criticality_of;
+pub use fields::deadline_instant;
+pub use fields::job_at;
+pub use fields::job_count;
+pub use fields::nominal_of;
+pub use fields::priority_of;
+pub use fields::zero_slack_instant;
+pub use outcome::Outcome;
+pub use refusals::before;
+pub use refusals::check_jobs;
+pub use refusals::check_lists;
+pub use refusals::check_tasks;
+pub use refusals::check9;
+pub use refusals::check10;
+pub use refusals::check13;
+pub use refusals::refuse;

@@ -1,8 +1,0 @@
--- The test passed, or it failed.
-use Rattle.zsrm.specs.Refusals.{refuse}
-use Rattle.zsrm.proofs.refusals.refuse.Statement.{statement}
-use Rattle.zsrm.proofs.refusals.refuse.Tie as tie
-
-pub refuse-spec : {M : Type 1} → statement M
-unfolding refuse
-refuse-spec = tie.close (tie.spec (λ c. rw (c .if1 .taken)) (λ c. rw (c .if1 .left)))
