@@ -30,12 +30,13 @@ static void three_tasks(struct lists *in, uint32_t mode) {
     set_horizon(in, 80);
 }
 
-/* Sixteen tasks with four jobs each, every job of `time` ticks. Priorities and criticalities run
-   against each other, so that zero slack decides often. */
-static void sixteen_tasks(struct lists *in, uint32_t mode, uint32_t time) {
+/* Sixteen tasks with four jobs each, every job of `time` ticks. Task i has criticality `step` * i
+   and zero-slack offset `slack` * i; priorities run the other way: zero slack decides often. */
+static void sixteen_tasks(struct lists *in, uint32_t mode, uint32_t time, uint32_t step,
+                          uint32_t slack) {
     clear(in, mode);
     for (uint32_t i = 0; i < 16; i++) {
-        const uint32_t task[7] = {4096, 4096, 256, 512, 15 * i, 63 - 4 * i, 256 * i};
+        const uint32_t task[7] = {4096, 4096, 256, 512, step * i, 63 - 4 * i, slack * i};
         add_task(in, task);
     }
     for (uint32_t j = 0; j < 64; j++)
@@ -44,11 +45,17 @@ static void sixteen_tasks(struct lists *in, uint32_t mode, uint32_t time) {
 }
 
 static void all_nominal(struct lists *in, uint32_t mode) {
-    sixteen_tasks(in, mode, 256);
+    sixteen_tasks(in, mode, 256, 15, 256);
 }
 
 static void all_overload(struct lists *in, uint32_t mode) {
-    sixteen_tasks(in, mode, 512);
+    sixteen_tasks(in, mode, 512, 15, 256);
+}
+
+/* One criticality and zero-slack offset 0: every job alive is past zero slack, and more are alive
+   from round to round. */
+static void all_equal(struct lists *in, uint32_t mode) {
+    sixteen_tasks(in, mode, 512, 0, 0);
 }
 
 const struct shape shapes[SHAPES] = {
@@ -56,4 +63,5 @@ const struct shape shapes[SHAPES] = {
     {"3 tasks, 14 jobs, 80 ticks", three_tasks},
     {"16 tasks, 64 jobs, 16384 ticks", all_nominal},
     {"the same, all jobs overrunning", all_overload},
+    {"the same, equal and no slack", all_equal},
 };

@@ -9,9 +9,9 @@ struct shape {
     void (*build)(struct lists *in, uint32_t mode);
 };
 
-enum { SHAPES = 4 };
+enum { SHAPES = 5 };
 
-/* The last two are as large as is accepted. */
+/* The last three are as large as is accepted. */
 extern const struct shape shapes[SHAPES];
 
 #endif

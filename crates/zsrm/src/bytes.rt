@@ -6,17 +6,16 @@ ghost use Rattle.zsrm.specs.Bytes.{number2};
 ghost use Rattle.zsrm.specs.Code.Called.{decoded};
 use tables::number_at;
 
-// The numbers of four bytes that a list begins with, as many as the longest list may have; past its end they are 0.
-pub(crate) fn decode(bytes: &[u8]) -> [u32; 192]
-    ensures { λ r. ⌜ r ≡ decoded (now (bytes .entry)) ⌝ }
+// Writes the numbers of four bytes that a list begins with, as many as the longest list may have; past its end they are 0.
+pub(crate) fn decode(bytes: &[u8], numbers: &mut [u32])
+    requires { ⌜ length (now numbers) ≡ 192 ⌝ }
+    ensures { λ _. ⌜ now (numbers .exit) ≡ decoded (now (bytes .entry)) ⌝ }
 {
-    let mut numbers = [0u32; 192];
     let mut i: usize = 0;
     while i < 192 {
         numbers[i] = number_at(bytes, i * 4);
         i += 1;
     }
-    numbers
 }
 
 // The number of two bytes at place i.

@@ -14,9 +14,11 @@ ghost use Rattle.tables.specs.Tables.{lists};
 use crate::bytes::decode;
 use crate::bytes::number2;
 use crate::bytes::put2;
-use crate::claims::try_entry;
+use crate::claims::is_legal;
+use crate::claims::taken;
 use crate::mode::Mode;
 use crate::record::fresh_record;
+use crate::tick::View;
 use tables::IDLE;
 use tables::Outcome;
 use tables::before;
@@ -86,8 +88,10 @@ struct Called {
 fn check_call(mode: u32, tasks: &[u8], jobs: &[u8], horizon: u32, count: usize) -> Called
     ensures { λ r. ⌜ r ≡ called mode (now (tasks .entry)) (now (jobs .entry)) horizon count ⌝ }
 {
-    let table = decode(tasks);
-    let list = decode(jobs);
+    let mut table = [0u32; 192];
+    decode(tasks, &mut table);
+    let mut list = [0u32; 192];
+    decode(jobs, &mut list);
     let n = spelled(tasks.len());
     let m = spelled(jobs.len());
     Called {
@@ -161,9 +165,9 @@ fn claim_bytes(mode: Mode, tasks: &[u32], jobs: &[u32], schedule: &[u8]) -> u32
     let mut t: usize = 0;
     while t < ticks {
         let entry = number2(schedule, t);
-        let tried = try_entry(rec, mode, last, entry, tasks, jobs);
-        let next = tried.record;
-        if tried.legal {
+        let seen = View::at(rec, tasks, jobs);
+        if is_legal(seen, rec, mode, last, entry, tasks, jobs) {
+            let next = taken(seen, rec, mode, entry, tasks, jobs);
             rec = next;
             last = entry;
             t += 1;

@@ -8,8 +8,9 @@ ghost use Rattle.tables.specs.Tables.{jobCount, lists};
 ghost use Rattle.tables.specs.Refusals.{checkLists};
 ghost use Rattle.zsrm.specs.Record.{consistent};
 ghost use Rattle.zsrm.specs.Code.View.{view};
-ghost use Rattle.zsrm.specs.Legal.{finishedAt, schedulingInstant, legalEntry};
-ghost use Rattle.zsrm.specs.Code.Claims.{tried, ReplayedAs, instantAt, topOrIdle};
+ghost use Rattle.zsrm.specs.Legal.{finishedAt, schedulingInstant, candidateOrIdle, legalEntry};
+ghost use Rattle.zsrm.specs.Tick.{advanced};
+ghost use Rattle.zsrm.specs.Code.Claims.{ReplayedAs, instantAt, topOrIdle};
 ghost use Rattle.zsrm.specs.Given.{given};
 ghost use Rattle.zsrm.specs.Answers.{claimAnswer};
 use crate::answers::Claim;
@@ -20,6 +21,7 @@ use crate::record::Record;
 use crate::record::Standing;
 use crate::record::fresh_record;
 use crate::runs::check_schedule;
+use crate::step::ended_word;
 use crate::tick::View;
 use crate::tick::has_priority;
 use tables::IDLE;
@@ -93,7 +95,7 @@ fn is_top_or_idle(seen: View, entry: u16, tasks: &[u32], jobs: &[u32]) -> bool
 }
 
 // Whether the entry is legal in the record's tick, given the entry before; what is seen is the view of the record.
-fn is_legal(
+pub(crate) fn is_legal(
     seen: View,
     rec: Record,
     mode: Mode,
@@ -117,39 +119,22 @@ fn is_legal(
     }
 }
 
-// Whether an entry is legal, and the record that it leads to; where it is not, the record as it was.
-pub(crate) struct Tried {
-    pub legal: bool,
-    pub record: Record,
-}
-
-// One entry of a claim, from a consistent record before tick 16,384.
-pub(crate) fn try_entry(
+// The record after its tick with an entry that may run; what is seen is the view of the record.
+pub(crate) fn taken(
+    seen: View,
     rec: Record,
     mode: Mode,
-    last: u16,
     entry: u16,
     tasks: &[u32],
     jobs: &[u32],
-) -> Tried
-    requires { ⌜ checkLists (lists (now tasks) (now jobs)) ≡ Outcome.Done ⌝ }
+) -> Record
+    requires { ⌜ (checkLists (lists (now tasks) (now jobs)) ≡ Outcome.Done) × (seen ≡ view (lists (now tasks) (now jobs)) rec) ⌝ }
     requires { ⌜ (consistent (given mode (now tasks) (now jobs)) rec ≡ true) × (rec .tick < 16384) ⌝ }
-    ensures { λ r. ⌜ r ≡ tried (given mode (now (tasks .entry)) (now (jobs .entry))) rec last entry ⌝ }
+    requires { ⌜ candidateOrIdle (given mode (now tasks) (now jobs)) rec entry ≡ true ⌝ }
+    ensures { λ r. ⌜ r ≡ advanced (given mode (now (tasks .entry)) (now (jobs .entry))) rec entry ⌝ }
 {
-    let seen = View::at(rec, tasks, jobs);
-    if is_legal(seen, rec, mode, last, entry, tasks, jobs) {
-        let next = rec.ticked(seen, mode, entry, tasks, jobs);
-        let record = next.record;
-        Tried {
-            legal: true,
-            record,
-        }
-    } else {
-        Tried {
-            legal: false,
-            record: rec,
-        }
-    }
+    let ended = ended_word(seen, rec, mode, entry, tasks, jobs);
+    rec.after(entry, ended, jobs)
 }
 
 // How many entries of a schedule are legal, up to the first that is not, and the record there.
@@ -168,16 +153,16 @@ pub(crate) fn replay(mode: Mode, tasks: &[u32], jobs: &[u32], schedule: &[u16]) 
     let mut t: usize = 0;
     while t < schedule.len() {
         let entry = schedule[t];
-        let tried = try_entry(rec, mode, last, entry, tasks, jobs);
-        let next = tried.record;
-        if tried.legal {
+        let seen = View::at(rec, tasks, jobs);
+        if is_legal(seen, rec, mode, last, entry, tasks, jobs) {
+            let next = taken(seen, rec, mode, entry, tasks, jobs);
             rec = next;
             last = entry;
             t += 1;
         } else {
             return Replayed {
                 ticks: t as u32,
-                record: next,
+                record: rec,
             };
         }
     }

@@ -82,7 +82,7 @@ impl Record {
         out.tick = t + 1;
         let mut j: usize = 0;
         while j < n {
-            let place = self.places[j];
+            let place = out.places[j];
             let job = job_at(jobs, j as u32);
             let is_ended = bits::has_bit(ended, j as u32);
             out.places[j] = next_place(place, t, (entry as usize) == j, is_ended, job);

@@ -6,9 +6,8 @@ ghost use Rattle.tables.specs.declared.outcome.Outcome.{Outcome};
 ghost use Rattle.tables.specs.Tables.{jobCount, lists};
 ghost use Rattle.tables.specs.Refusals.{checkLists};
 ghost use Rattle.zsrm.specs.Record.{consistent};
-ghost use Rattle.zsrm.specs.Tick.{endedWord, advanced};
-ghost use Rattle.zsrm.specs.Legal.{candidateOrIdle};
-ghost use Rattle.zsrm.specs.Code.View.{view, endedBy};
+ghost use Rattle.zsrm.specs.Tick.{endedWord};
+ghost use Rattle.zsrm.specs.Code.View.{view};
 ghost use Rattle.zsrm.specs.Given.{given};
 ghost use Rattle.zsrm.specs.Answers.{refusedStep, stepped, checkStep, freshAnswer, stepAnswer};
 use crate::answers::Ran;
@@ -23,20 +22,29 @@ use crate::record::check12;
 use crate::record::fresh_record;
 use crate::record::is_consistent;
 use crate::tick::View;
+use crate::tick::greatest_criticality;
 use crate::tick::less_critical_word;
 use crate::tick::overrun_word;
 use tables::Outcome;
 use tables::before;
 use tables::check_lists;
 
-// The jobs that are ended in the tick in which the entry runs.
-fn ended_word(seen: View, rec: Record, mode: Mode, entry: u16, tasks: &[u32], jobs: &[u32]) -> u64
-    requires { ⌜ jobCount (now jobs) ≤ 64 ⌝ }
-    ensures { λ r. ⌜ r ≡ endedBy (given mode (now (tasks .entry)) (now (jobs .entry))) rec seen entry ⌝ }
+// The jobs that are ended in the tick in which the entry runs; what is seen is the view of the record.
+pub(crate) fn ended_word(
+    seen: View,
+    rec: Record,
+    mode: Mode,
+    entry: u16,
+    tasks: &[u32],
+    jobs: &[u32],
+) -> u64
+    requires { ⌜ (jobCount (now jobs) ≤ 64) × (seen ≡ view (lists (now tasks) (now jobs)) rec) ⌝ }
+    ensures { λ r. ⌜ r ≡ endedWord (given mode (now (tasks .entry)) (now (jobs .entry))) rec entry ⌝ }
 {
     if is_se(mode) {
         let over = overrun_word(rec, seen.past, entry, tasks, jobs);
-        less_critical_word(seen.alive, over, tasks, jobs)
+        let most = greatest_criticality(over, tasks, jobs);
+        less_critical_word(seen.alive, most, tasks, jobs)
     } else {
         0
     }
@@ -68,34 +76,7 @@ fn check_step(rec: Record, mode: Mode, tasks: &[u32], jobs: &[u32]) -> Outcome
     )
 }
 
-// The record advanced by one tick, and the jobs that the tick ended.
-pub(crate) struct Ticked {
-    pub record: Record,
-    pub ended: u64,
-}
-
 impl Record {
-    // One tick with a given entry, which may run; what is seen is the view of the record.
-    pub(crate) fn ticked(
-        self,
-        seen: View,
-        mode: Mode,
-        entry: u16,
-        tasks: &[u32],
-        jobs: &[u32],
-    ) -> Ticked
-        requires { ⌜ (jobCount (now jobs) ≤ 64) × (self .tick < 16384) ⌝ }
-        requires { ⌜ consistent (given mode (now tasks) (now jobs)) self ≡ true ⌝ }
-        requires { ⌜ candidateOrIdle (given mode (now tasks) (now jobs)) self entry ≡ true ⌝ }
-        requires { ⌜ seen ≡ view (lists (now tasks) (now jobs)) self ⌝ }
-        ensures advances { λ r. ⌜ r .«record» ≡ advanced (given mode (now (tasks .entry)) (now (jobs .entry))) self entry ⌝ }
-        ensures ends { λ r. ⌜ r .ended ≡ endedWord (given mode (now (tasks .entry)) (now (jobs .entry))) self entry ⌝ }
-    {
-        let ended = ended_word(seen, self, mode, entry, tasks, jobs);
-        let record = self.after(entry, ended, jobs);
-        Ticked { record, ended }
-    }
-
     // One tick of our run, on lists that passed their checks, from a consistent record before tick 16,384.
     pub(crate) fn advance(self, mode: Mode, tasks: &[u32], jobs: &[u32]) -> Stepped
         requires { ⌜ checkLists (lists (now tasks) (now jobs)) ≡ Outcome.Done ⌝ }
@@ -104,8 +85,8 @@ impl Record {
     {
         let seen = View::at(self, tasks, jobs);
         let entry = seen.choice(tasks, jobs);
-        let next = self.ticked(seen, mode, entry, tasks, jobs);
-        let record = next.record;
+        let ended = ended_word(seen, self, mode, entry, tasks, jobs);
+        let record = self.after(entry, ended, jobs);
         let ones = bits::ones(seen.ready);
         Stepped {
             outcome: Outcome::Done,
@@ -113,7 +94,7 @@ impl Record {
             ready: seen.ready,
             ones,
             entry,
-            ended: next.ended,
+            ended,
         }
     }
 

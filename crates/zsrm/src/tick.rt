@@ -1,9 +1,11 @@
 // Document 01, "One tick", with sets of jobs as words: bit j for job j.
 ghost use mathlib.Core.Path.{_≡_};
+ghost use mathlib.Core.Bool.{_&&_, cond};
+ghost use lib.Dec.{ltb};
 ghost use Prim.Native.Nat.{_≤_};
 ghost use Rattle.tables.specs.Tables.{jobCount, lists};
 ghost use Rattle.zsrm.specs.Tick.{unfinished, alive, jobWord};
-ghost use Rattle.zsrm.specs.Code.View.{isPast, pastWord, hasPriority, priorityWord, lowestOf, overruns, overrunWord, view, chosen, lessCriticalIn, lessCriticalWord, moreCriticalIn, someMoreCritical};
+ghost use Rattle.zsrm.specs.Code.View.{isPast, pastWord, hasPriority, priorityWord, lowestOf, overruns, overrunWord, view, chosen, lessCriticalIn, lessCriticalWord, greatestCriticality};
 use crate::next::done_after;
 use crate::record::Record;
 use crate::record::Standing;
@@ -75,49 +77,44 @@ fn past_word(among: u64, tick: u32, tasks: &[u32], jobs: &[u32]) -> u64
     word
 }
 
-// Whether job i is in the set and strictly more critical than c.
-fn is_more_critical_in(by: u64, c: Criticality, i: u32, tasks: &[u32], jobs: &[u32]) -> bool
-    ensures { λ r. ⌜ r ≡ moreCriticalIn (lists (now (tasks .entry)) (now (jobs .entry))) by (c .0) i ⌝ }
+// The greater of two criticalities; the second where the first does not count.
+fn greater(counts: bool, its: Criticality, most: Criticality) -> Criticality
+    ensures { λ r. ⌜ r .0 ≡ cond (counts && ltb (most .0) (its .0)) (its .0) (most .0) ⌝ }
 {
-    if bits::has_bit(by, i) {
-        criticality_of(tasks, jobs, i).exceeds(c)
+    if counts & its.exceeds(most) {
+        its
     } else {
-        false
+        most
     }
 }
 
-// Whether some job in the set is strictly more critical than c.
-fn is_some_more_critical(by: u64, c: Criticality, tasks: &[u32], jobs: &[u32]) -> bool
+// The greatest criticality among the jobs of a set, 0 where it has none.
+pub(crate) fn greatest_criticality(among: u64, tasks: &[u32], jobs: &[u32]) -> Criticality
     requires { ⌜ jobCount (now jobs) ≤ 64 ⌝ }
-    ensures { λ r. ⌜ r ≡ someMoreCritical (lists (now (tasks .entry)) (now (jobs .entry))) by (c .0) ⌝ }
+    ensures { λ r. ⌜ r .0 ≡ greatestCriticality (lists (now (tasks .entry)) (now (jobs .entry))) among ⌝ }
 {
     let n = job_count(jobs);
-    let mut i: usize = 0;
-    while i < n {
-        if is_more_critical_in(by, c, i as u32, tasks, jobs) {
-            return true;
-        }
-        i += 1;
+    let mut most = Criticality(0);
+    let mut j: usize = 0;
+    while j < n {
+        let its = criticality_of(tasks, jobs, j as u32);
+        most = greater(bits::has_bit(among, j as u32), its, most);
+        j += 1;
     }
-    false
+    most
 }
 
-// Whether job j is in the one set, and some job of the other is strictly more critical.
-fn is_less_critical_in(among: u64, by: u64, j: u32, tasks: &[u32], jobs: &[u32]) -> bool
-    requires { ⌜ jobCount (now jobs) ≤ 64 ⌝ }
-    ensures { λ r. ⌜ r ≡ lessCriticalIn (lists (now (tasks .entry)) (now (jobs .entry))) among by j ⌝ }
+// Whether job j is in the set and strictly less critical than c.
+fn is_less_critical(among: u64, c: Criticality, j: u32, tasks: &[u32], jobs: &[u32]) -> bool
+    ensures { λ r. ⌜ r ≡ lessCriticalIn (lists (now (tasks .entry)) (now (jobs .entry))) among (c .0) j ⌝ }
 {
-    if bits::has_bit(among, j) {
-        is_some_more_critical(by, criticality_of(tasks, jobs, j), tasks, jobs)
-    } else {
-        false
-    }
+    bits::has_bit(among, j) & c.exceeds(criticality_of(tasks, jobs, j))
 }
 
-// The jobs of one set than which some job of another is strictly more critical.
-pub(crate) fn less_critical_word(among: u64, by: u64, tasks: &[u32], jobs: &[u32]) -> u64
+// The jobs of a set that are strictly less critical than c.
+pub(crate) fn less_critical_word(among: u64, c: Criticality, tasks: &[u32], jobs: &[u32]) -> u64
     requires { ⌜ jobCount (now jobs) ≤ 64 ⌝ }
-    ensures { λ r. ⌜ r ≡ lessCriticalWord (lists (now (tasks .entry)) (now (jobs .entry))) among by ⌝ }
+    ensures { λ r. ⌜ r ≡ lessCriticalWord (lists (now (tasks .entry)) (now (jobs .entry))) among (c .0) ⌝ }
 {
     let n = job_count(jobs);
     let mut word: u64 = 0;
@@ -126,7 +123,7 @@ pub(crate) fn less_critical_word(among: u64, by: u64, tasks: &[u32], jobs: &[u32
         word = bits::with_bit_if(
             word,
             j as u32,
-            is_less_critical_in(among, by, j as u32, tasks, jobs),
+            is_less_critical(among, c, j as u32, tasks, jobs),
         );
         j += 1;
     }
@@ -205,7 +202,9 @@ impl View {
     {
         let alive = alive_word(rec, jobs);
         let past = past_word(alive, rec.tick, tasks, jobs);
-        let eligible = bits::without(alive, less_critical_word(alive, past, tasks, jobs));
+        let most = greatest_criticality(past, tasks, jobs);
+        let suspended = less_critical_word(alive, most, tasks, jobs);
+        let eligible = bits::without(alive, suspended);
         let ready = priority_word(eligible, tasks, jobs);
         View {
             alive,

@@ -11,19 +11,17 @@ use borrow.Author.Tests.{eq-eqb, ne-eqb}
 use Rattle.bits.specs.Below.{listFrom}
 use Rattle.bits.proofs.Below.{getD-list, length-listFrom}
 use Rattle.zsrm.specs.declared.answers.Stepped.{Stepped}
-use Rattle.zsrm.specs.declared.claims.Tried.{Tried}
 use Rattle.zsrm.specs.declared.record.Record.{Record}
 use Rattle.tables.specs.Bytes.{numberAt}
 use Rattle.zsrm.specs.Answers.{stepped}
 use Rattle.zsrm.specs.Bytes.{bytes2, number2, numbers2, numbers4, packedClaim}
 use Rattle.zsrm.specs.Code.Called.{decoded}
-use Rattle.zsrm.specs.Code.Claims.{tried}
-use Rattle.zsrm.specs.Legal.{claim}
+use Rattle.zsrm.specs.Legal.{claim, legalEntry}
 use Rattle.zsrm.specs.Given.{Given}
 use Rattle.zsrm.specs.Record.{fresh}
 use Rattle.zsrm.specs.Run.{entriesBy, runEntries}
-use Rattle.zsrm.specs.Tick.{choice}
-use Rattle.zsrm.proofs.Laws.Claims.{Replaying, claim-answer, replaying-ends, replaying-more, replaying-stops, tried-says}
+use Rattle.zsrm.specs.Tick.{advanced, choice}
+use Rattle.zsrm.proofs.Laws.Claims.{Replaying, claim-answer, replaying-ends, replaying-more, replaying-stops}
 use Rattle.zsrm.proofs.Laws.Consistent.{fresh-consistent}
 use Rattle.zsrm.proofs.Laws.Going.{Going, entries-more, entries-none, going-more, going-none, steps-entry}
 use Rattle.zsrm.proofs.Laws.Places.{tick-fresh}
@@ -142,19 +140,17 @@ module _ (g : Given) (bytes : List ℕ) (r : Record) where
 
 -- a claim that is replayed from its bytes, as one number
 module _ (g : Given) (bytes : List ℕ) (r : Record) (last t : ℕ) (w : Replaying g (numbers2 bytes) r last t) where
-  module _ (e : ℕ) (x : Tried) (b : t < length bytes / 2) (q : e ≡ number2 bytes t) (p : x ≡ tried g r last e) where
-    pub reading-more : length bytes ≤ 32768 → x .legal ≡ true → Replaying g (numbers2 bytes) (x .«record») e (t + 1)
-    reading-more limit h =
+  module _ (e : ℕ) (b : t < length bytes / 2) (q : e ≡ number2 bytes t) where
+    pub reading-more : (next : Record) → length bytes ≤ 32768 → legalEntry g r last e ≡ true → next ≡ advanced g r e → Replaying g (numbers2 bytes) next e (t + 1)
+    reading-more next limit h a =
         let n = length-numbers2 bytes in
-        let s = tried-says g r last e x p in
-        let legal = sym (s .0) ∙ h in
-        replaying-more g (numbers2 bytes) r (x .«record») last t e w (omega arith) (omega arith) (q ∙ sym (entry-at bytes t b)) legal (s .1 legal)
+        replaying-more g (numbers2 bytes) r next last t e w (omega arith) (omega arith) (q ∙ sym (entry-at bytes t b)) h a
 
-    pub reading-stops : x .legal ≡ false → 65536 + t ≡ packedClaim (claim g (numbers2 bytes))
+    pub reading-stops : legalEntry g r last e ≡ false → 65536 + t ≡ packedClaim (claim g (numbers2 bytes))
     unfolding packedClaim
     reading-stops h =
         let n = length-numbers2 bytes in
-        let m = replaying-stops g (numbers2 bytes) r r last t e w (omega arith) (q ∙ sym (entry-at bytes t b)) (sym (tried-says g r last e x p .0) ∙ h) in
+        let m = replaying-stops g (numbers2 bytes) r r last t e w (omega arith) (q ∙ sym (entry-at bytes t b)) h in
         ap packedClaim (rw (ne-eqb t (length (numbers2 bytes)) (λ z. omega arith)) at (claim-answer g (numbers2 bytes) _ m))
 
   pub reading-ends : t ≡ length bytes / 2 → 0 ≡ packedClaim (claim g (numbers2 bytes))

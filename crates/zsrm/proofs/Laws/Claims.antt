@@ -16,12 +16,11 @@ use Rattle.bits.proofs.Bools.{and-left, and-true, clash, either, fails, not-of,
 use Rattle.bits.proofs.Word.{bit-above, bit-word, highest-word, word-none}
 use Rattle.tables.specs.declared.outcome.Outcome.the-variants.{Done}
 use Rattle.zsrm.specs.declared.answers.Claim.the-variants.{Legal, NotLegal}
-use Rattle.zsrm.specs.declared.claims.Tried.{Tried}
 use Rattle.zsrm.specs.declared.claims.Replayed.{Replayed}
 use Rattle.zsrm.specs.declared.record.Record.{Record}
 use Rattle.zsrm.specs.declared.tick.View.{View}
 use Rattle.zsrm.specs.Given.{isSE, Given}
-use Rattle.zsrm.specs.Code.Claims.{ReplayedAs, topOrIdle, tried, instantAt}
+use Rattle.zsrm.specs.Code.Claims.{ReplayedAs, topOrIdle, instantAt}
 use Rattle.tables.specs.Tables.{idle, jobCount, jobPriority, Lists}
 use Rattle.zsrm.specs.Legal.{candidateOrIdle, legalEntry, schedulingInstant, instantBy, legalFrom, legalLength, claim, isLegal}
 use Rattle.zsrm.specs.Record.{consistent, doneAt, fresh, placeAt, standingAt}
@@ -118,14 +117,6 @@ module _ (g : Given) (r : Record) (last e : ℕ) where
   unfolding legalEntry
   legal-never d = rw d
 
-  pub tried-legal : (next : Record) → legalEntry g r last e ≡ true → next ≡ advanced g r e → _≡_ {A = Tried} (record { legal = true; «record» = next }) (tried g r last e)
-  unfolding tried
-  tried-legal next h q = rw (h, q)
-
-  pub tried-illegal : legalEntry g r last e ≡ false → _≡_ {A = Tried} (record { legal = false; «record» = r }) (tried g r last e)
-  unfolding tried
-  tried-illegal h = rw h
-
 -- a replay that has come to tick t, all entries before it being legal
 pub record Replaying (g : Given) (schedule : List ℕ) (r : Record) (last t : ℕ) : Type 0 where
   pub legal : legalLength g schedule ≡ t + legalFrom g r last (drop t schedule)
@@ -167,11 +158,6 @@ module _ (g : Given) (schedule : List ℕ) where
   replaying-ends r last t w b =
       let none : drop t schedule ≡ [] = drop-of-length-le schedule b in
       record { ticks = omega (arith, w .legal, ap (legalFrom g r last) none); ends = λ _. sym (w .ends ∙ ap (replay g r) none) }
-
--- what a test of one entry says
-pub tried-says : (g : Given) (r : Record) (last e : ℕ) (x : Tried) → x ≡ tried g r last e → (x .legal ≡ legalEntry g r last e) × (legalEntry g r last e ≡ true → x .«record» ≡ advanced g r e)
-unfolding tried
-tried-says g r last e x q = (ap (λ (y : Tried). y .legal) q, λ h. ap (λ (y : Tried). y .«record») q ∙ rw h)
 
 -- what a replay's count answers to a claim
 pub claim-answer : (g : Given) (schedule : List ℕ) (x : Replayed) → ReplayedAs g schedule x

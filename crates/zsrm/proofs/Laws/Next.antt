@@ -23,7 +23,7 @@ use Rattle.zsrm.specs.Record.{arrived, arriving, blank, consistent, done
 use Rattle.zsrm.specs.Given.{Given}
 use Rattle.tables.specs.Tables.{arrival, execution, jobCount}
 use Rattle.zsrm.specs.Tick.{advanced, alive, doneAfter, endedWord, ends, finishes, goesOn, placeAfter, standingAfter, unfinished}
-use Rattle.zsrm.proofs.Laws.Consistent.{beyond-waits}
+use Rattle.zsrm.proofs.Laws.Consistent.{beyond-waits, done-tick}
 use Rattle.zsrm.proofs.Laws.View.{jobWord-bit}
 use Rattle.zsrm.proofs.Laws.Tick.{done-dead}
 use Rattle.bits.proofs.Bools.{by-cond}
@@ -46,6 +46,11 @@ fresh-made jobs out j t w m =
 -- the places as the loop has made them so far: those of the jobs below j are the next ones
 abbrev pub Made : List ℕ → Record → ℕ → ℕ → Record → ℕ → Type 0
 Made jobs r e ended out j = (out .tick ≡ r .tick + 1) × Written empty (nextAt jobs r e ended) (r .places) (out .places) 64 j
+
+-- the place of job j is as it was until it is written
+pub made-held : (jobs : List ℕ) (r : Record) (e ended : ℕ) (out : Record) (j : ℕ) → Made jobs r e ended out j → j < 64 → placeAt out j ≡ placeAt r j
+unfolding placeAt
+made-held jobs r e ended out j w l = w .1 .each j l ∙ rw (le-ltb j j (omega arith))
 
 -- the next place of job j
 pub next-at : (jobs : List ℕ) (r : Record) (e ended j : ℕ) (p v : Place) (b : Bool) (x : Job) → j < jobCount jobs → p ≡ placeAt r j → b ≡ bit ended j → x ≡ jobAt jobs j
@@ -88,9 +93,18 @@ module _ (g : Given) (r : Record) (e : ℕ) (few : jobCount (g .lists .jobs) ≤
       ap₂ (λ (d : ℕ) (s : Standing). let p : Place = record { done = d; standing = s } in p) (sym (done-dead g r e may j l (ap unfinished waits)))
       (waits ∙ sym (ap (standingAfter g r e j) waits ∙ rw (le-ltb j (jobCount (g .lists .jobs)) m)))
 
-  pub next-advanced : nextRecord (g .lists .jobs) r e (endedWord g r e) ≡ advanced g r e
+  next-advanced : nextRecord (g .lists .jobs) r e (endedWord g r e) ≡ advanced g r e
   unfolding nextRecord nextAt advanced
   next-advanced =
       same-record _ (record { tick = suc (r .tick); places = listFrom 0 64 (placeAfter g r e) }) (add-one (r .tick))
       (list-same 64 (nextAt (g .lists .jobs) r e (endedWord g r e)) (placeAfter g r e) (λ j l.
       by-cond (λ p. p ≡ placeAfter g r e j) (ltb j (jobCount (g .lists .jobs))) _ _ (λ q. job-next j (ltb-true _ _ q)) (λ q. beyond-next j (ltb-false _ _ q) l)))
+
+  -- and so is the record that the code builds with the jobs that the tick ends
+  pub next-built : (next : Record) (ended : ℕ) → ended ≡ endedWord g r e → next ≡ nextRecord (g .lists .jobs) r e ended → next ≡ advanced g r e
+  next-built next ended p q = q ∙ ap (nextRecord (g .lists .jobs) r e) p ∙ next-advanced
+
+-- what building it asks for
+pub next-fits : (g : Given) (r : Record) → jobCount (g .lists .jobs) ≤ 64 → r .tick < 16384 → consistent g r ≡ true
+    → (jobCount (g .lists .jobs) ≤ 64) × (r .tick < 16384) × ((j : ℕ) → j < 64 → doneAt r j ≤ 16384)
+next-fits g r few early sound = (few, early, λ j l. omega (arith, done-tick g r sound j l))

@@ -1,16 +1,17 @@
 -- The code's sets of jobs are those of "One tick": what a loop has collected, and what the words of the view say.
-use Prim.Native.Nat.{_+_, _<_, ℕ, _≤_}
-use mathlib.Core.Bool.{_&&_, Bool, cond, false, not, true}
+use native.Mathlib.Numerals.{add-one}
+use Prim.Native.Nat.{_+_, _<_, suc, zero, ℕ, _≤_}
+use mathlib.Core.Bool.{_&&_, Bool, cond, false, not, true, _||_}
 use mathlib.Core.List.{List}
 use mathlib.Core.Logic.{inl, inr, _⊎_}
 use mathlib.Core.Path.{ap, ap₂, refl, sym, _∙_, _≡_}
 use native.Mathlib.Omega.{arith}
 use lib.Dec.{eqb, leb, ltb}
-use borrow.Author.Tests.{lt-ltb, ltb-true}
-use Rattle.bits.specs.Below.{bit, greatest, word}
+use borrow.Author.Tests.{le-ltb, lt-ltb, ltb-false, ltb-true}
+use Rattle.bits.specs.Below.{bit, greatest, word, some}
 use Rattle.bits.specs.Word.{without}
 use Rattle.bits.proofs.Below.{least-same, some-same}
-use Rattle.bits.proofs.Bools.{and-false-right, by-cond, clash, either, fails}
+use Rattle.bits.proofs.Bools.{and-false-right, clash, either, fails}
 use Rattle.bits.proofs.Word.{bit-word, highest-word, upTo, without-word, word-none, word-same}
 use Rattle.zsrm.specs.declared.record.Record.{Record}
 use Rattle.zsrm.specs.declared.tick.View.{View}
@@ -18,7 +19,7 @@ use Rattle.zsrm.specs.Given.{isSE, Given}
 use Rattle.tables.specs.Tables.{idle, jobCount, jobCriticality, jobNominal, jobPriority, zeroSlackInstant, Lists}
 use Rattle.zsrm.specs.Record.{doneAt}
 use Rattle.zsrm.specs.Tick.{alive, candidate, choice, doneAfter, eligible, endedWord, ends, jobWord, moreCritical, over, pastZeroSlack, readyAt, readyWord, someJob, suspended}
-use Rattle.zsrm.specs.Code.View.{lessCriticalWord, chosen, endedBy, hasPriority, isPast, lessCriticalIn, lowestOf, someMoreCritical, moreCriticalIn, overrunWord, overruns, pastWord, priorityWord, view}
+use Rattle.zsrm.specs.Code.View.{lessCriticalWord, chosen, hasPriority, isPast, lessCriticalIn, lowestOf, overrunWord, overruns, pastWord, priorityWord, view, greatestKey, greatestCriticality}
 use Rattle.zsrm.proofs.Laws.Ready.{candidate-top}
 use Rattle.zsrm.proofs.Laws.Tick.{ends-by, se-reads}
 
@@ -28,10 +29,10 @@ unfolding jobWord
 collected jobs f n j w q a b p = p ∙ ap (λ (x : ℕ). word 64 (upTo f x)) (let e : j ≡ n = omega arith in e ∙ q)
 
 -- the view, word by word
-pub view-made : (l : Lists) (r : Record) (a p b e y : ℕ) → a ≡ jobWord (l .jobs) (alive r) → p ≡ pastWord l a (r .tick) → b ≡ lessCriticalWord l a p → e ≡ without a b
-    → y ≡ priorityWord l e → _≡_ {A = View} (record { alive = a; past = p; eligible = e; ready = y }) (view l r)
+pub view-made : (l : Lists) (r : Record) (a p m b e y : ℕ) → a ≡ jobWord (l .jobs) (alive r) → p ≡ pastWord l a (r .tick) → m ≡ greatestCriticality l p → b ≡ lessCriticalWord l a m
+    → e ≡ without a b → y ≡ priorityWord l e → _≡_ {A = View} (record { alive = a; past = p; eligible = e; ready = y }) (view l r)
 unfolding view
-view-made l r a p b e y qa qp qb qe qy = rw (qy, qe, qb, qp, qa)
+view-made l r a p m b e y qa qp qm qb qe qy = rw (qy, qe, qb, qm, qp, qa)
 
 -- a set of jobs and its word
 pub jobWord-same : (jobs : List ℕ) (f h : ℕ → Bool) → ((j : ℕ) → j < jobCount jobs → f j ≡ h j) → jobWord jobs f ≡ jobWord jobs h
@@ -46,6 +47,34 @@ pub jobWord-bit : (jobs : List ℕ) (f : ℕ → Bool) (j : ℕ) → jobCount jo
 unfolding jobWord
 jobWord-bit jobs f j few l = bit-word (upTo f (jobCount jobs)) 64 j (omega arith) ∙ rw (lt-ltb j (jobCount jobs) l)
 
+-- some number that passes has a key above x exactly where the greatest key is
+pub greatest-key : (f : ℕ → Bool) (key : ℕ → ℕ) (n x : ℕ) → some n (λ i. f i && ltb x (key i)) ≡ ltb x (greatestKey n f key)
+unfolding some greatestKey
+greatest-key f key zero x = sym (le-ltb x 0 (omega arith))
+greatest-key f key (suc n) x =
+    ap (λ (b : Bool). (f n && ltb x (key n)) || b) (greatest-key f key n x) ∙ go (f n) (either (ltb (greatestKey n f key) (key n))) (either (ltb x (key n))) (either (ltb x (greatestKey n f key)))
+  where
+    m : ℕ
+    m = greatestKey n f key
+
+    go : (b : Bool) → (ltb m (key n) ≡ true) ⊎ (ltb m (key n) ≡ false) → (ltb x (key n) ≡ true) ⊎ (ltb x (key n) ≡ false) → (ltb x m ≡ true) ⊎ (ltb x m ≡ false)
+        → ((b && ltb x (key n)) || ltb x m) ≡ ltb x (cond (b && ltb m (key n)) (key n) m)
+    go false p q r = refl
+    go true (inl p) (inl q) r = rw (p, q)
+    go true (inl p) (inr q) (inl r) = absurd (omega (arith, ltb-true m (key n) p, ltb-false x (key n) q, ltb-true x m r))
+    go true (inl p) (inr q) (inr r) = rw (p, q, r)
+    go true (inr p) (inl q) (inl r) = rw (p, q, r)
+    go true (inr p) (inl q) (inr r) = absurd (omega (arith, ltb-false m (key n) p, ltb-true x (key n) q, ltb-false x m r))
+    go true (inr p) (inr q) r = rw (p, q)
+
+-- a loop has found the greatest so far
+pub greatest-key-more : (f : ℕ → Bool) (key : ℕ → ℕ) (j m v : ℕ) → m ≡ greatestKey j f key → v ≡ cond (f j && ltb m (key j)) (key j) m → v ≡ greatestKey (j + 1) f key
+unfolding greatestKey
+greatest-key-more f key j m v p q = rw add-one (q ∙ ap (λ (x : ℕ). cond (f j && ltb x (key j)) (key j) x) p)
+
+pub greatest-key-all : (f : ℕ → Bool) (key : ℕ → ℕ) (n j m : ℕ) → j ≤ n → n ≤ j → m ≡ greatestKey j f key → m ≡ greatestKey n f key
+greatest-key-all f key n j m a b p = p ∙ ap (λ (k : ℕ). greatestKey k f key) (omega arith)
+
 -- each word of the view is the document's set
 module _ (g : Given) (r : Record) (few : jobCount (g .lists .jobs) ≤ 64) where
   aliveBit : (j : ℕ) → j < jobCount (g .lists .jobs) → bit (jobWord (g .lists .jobs) (alive r)) j ≡ alive r j
@@ -55,21 +84,19 @@ module _ (g : Given) (r : Record) (few : jobCount (g .lists .jobs) ≤ 64) where
   unfolding pastWord isPast pastZeroSlack
   past-view = jobWord-same (g .lists .jobs) _ (pastZeroSlack g r) (λ j l. ap (λ (b : Bool). b && leb (zeroSlackInstant (g .lists) j) (r .tick)) (aliveBit j l))
 
-  -- a set that is a test's word has a job more critical than c exactly where some job that passes is
-  someMoreCritical-by : (f : ℕ → Bool) (c : ℕ) → someMoreCritical (g .lists) (jobWord (g .lists .jobs) f) c ≡ someJob (g .lists .jobs) (λ i. f i && ltb c (jobCriticality (g .lists) i))
-  unfolding someMoreCritical moreCriticalIn someJob
-  someMoreCritical-by f c =
-      some-same _ (λ i. f i && ltb c (jobCriticality (g .lists) i)) (jobCount (g .lists .jobs))
-      (λ i l. ap (λ (b : Bool). b && ltb c (jobCriticality (g .lists) i)) (jobWord-bit (g .lists .jobs) f i few l))
-
+  -- the jobs alive that are less critical than the greatest of a set are those than which some job of the set is more critical
   below-by : (f : ℕ → Bool)
-      → lessCriticalWord (g .lists) (jobWord (g .lists .jobs) (alive r)) (jobWord (g .lists .jobs) f) ≡ jobWord (g .lists .jobs) (λ j. alive r j && someJob (g .lists .jobs) (λ i. f i && moreCritical g i j))
-  unfolding lessCriticalWord lessCriticalIn moreCritical
+      → lessCriticalWord (g .lists) (jobWord (g .lists .jobs) (alive r)) (greatestCriticality (g .lists) (jobWord (g .lists .jobs) f))
+      ≡ jobWord (g .lists .jobs) (λ j. alive r j && someJob (g .lists .jobs) (λ i. f i && moreCritical g i j))
+  unfolding lessCriticalWord lessCriticalIn greatestCriticality moreCritical someJob
   below-by f =
       jobWord-same (g .lists .jobs) _ (λ j. alive r j && someJob (g .lists .jobs) (λ i. f i && moreCritical g i j))
-      (λ j l. ap₂ (λ (a b : Bool). a && b) (aliveBit j l) (someMoreCritical-by f (jobCriticality (g .lists) j)))
+      (λ j l. ap₂ (λ (a b : Bool). a && b) (aliveBit j l)
+      (sym (greatest-key (bit (jobWord (g .lists .jobs) f)) (jobCriticality (g .lists)) (jobCount (g .lists .jobs)) (jobCriticality (g .lists) j))
+      ∙ some-same _ (λ i. f i && ltb (jobCriticality (g .lists) j) (jobCriticality (g .lists) i)) (jobCount (g .lists .jobs))
+      (λ i m. ap (λ (b : Bool). b && ltb (jobCriticality (g .lists) j) (jobCriticality (g .lists) i)) (jobWord-bit (g .lists .jobs) f i few m))))
 
-  pub suspended-view : lessCriticalWord (g .lists) (jobWord (g .lists .jobs) (alive r)) (jobWord (g .lists .jobs) (pastZeroSlack g r)) ≡ jobWord (g .lists .jobs) (suspended g r)
+  pub suspended-view : lessCriticalWord (g .lists) (jobWord (g .lists .jobs) (alive r)) (greatestCriticality (g .lists) (jobWord (g .lists .jobs) (pastZeroSlack g r))) ≡ jobWord (g .lists .jobs) (suspended g r)
   unfolding suspended
   suspended-view = below-by (pastZeroSlack g r)
 
@@ -115,7 +142,7 @@ module _ (g : Given) (r : Record) (few : jobCount (g .lists .jobs) ≤ 64) where
   -- the jobs that are over, and those that are ended
   module _ (e : ℕ) where
     pub ended-view : isSE (g .mode) ≡ true
-        → lessCriticalWord (g .lists) (view (g .lists) r .alive) (overrunWord (g .lists) r (view (g .lists) r .past) e) ≡ endedWord g r e
+        → lessCriticalWord (g .lists) (view (g .lists) r .alive) (greatestCriticality (g .lists) (overrunWord (g .lists) r (view (g .lists) r .past) e)) ≡ endedWord g r e
     unfolding overrunWord overruns endedWord ends
     ended-view se =
         let overs : overrunWord (g .lists) r (view (g .lists) r .past) e ≡ jobWord (g .lists .jobs) (over g r e) =
@@ -128,20 +155,11 @@ module _ (g : Given) (r : Record) (few : jobCount (g .lists .jobs) ≤ 64) where
     unfolding endedWord jobWord
     none-ended s = word-none _ 64 (λ j _. and-false-right (ltb j (jobCount (g .lists .jobs))) (fails (ends g r e j) (λ h. clash (se-reads (g .mode) .1 (ends-by g r e j h .1 .se)) s)))
 
--- what the code ends, in either mode
-module _ (g : Given) (r : Record) (v : View) (e : ℕ) where
-  pub ended-se : (over w : ℕ) → isSE (g .mode) ≡ true → over ≡ overrunWord (g .lists) r (v .past) e → w ≡ lessCriticalWord (g .lists) (v .alive) over → w ≡ endedBy g r v e
-  unfolding endedBy
-  ended-se over w se p q = rw se (q ∙ ap (lessCriticalWord (g .lists) (v .alive)) p)
+-- what the code ends, in either mode, is what the tick ends
+module _ (g : Given) (r : Record) (v : View) (e : ℕ) (few : jobCount (g .lists .jobs) ≤ 64) (q : v ≡ view (g .lists) r) where
+  pub ended-se : (over m w : ℕ) → isSE (g .mode) ≡ true → over ≡ overrunWord (g .lists) r (v .past) e → m ≡ greatestCriticality (g .lists) over
+      → w ≡ lessCriticalWord (g .lists) (v .alive) m → w ≡ endedWord g r e
+  ended-se over m w se p k h = h ∙ rw (k, p, q) (ended-view g r few e se)
 
-  pub ended-s : isSE (g .mode) ≡ false → 0 ≡ endedBy g r v e
-  unfolding endedBy
-  ended-s s = rw s
-
-  -- is what the tick ends
-  pub ended-seen : jobCount (g .lists .jobs) ≤ 64 → v ≡ view (g .lists) r → endedBy g r v e ≡ endedWord g r e
-  unfolding endedBy
-  ended-seen few q =
-      rw q
-      (by-cond (λ w. w ≡ endedWord g r e) (isSE (g .mode)) (lessCriticalWord (g .lists) (view (g .lists) r .alive) (overrunWord (g .lists) r (view (g .lists) r .past) e)) 0
-      (λ se. ended-view g r few e se) (λ s. sym (none-ended g r few e s)))
+  pub ended-s : isSE (g .mode) ≡ false → 0 ≡ endedWord g r e
+  ended-s s = sym (none-ended g r few e s)

@@ -1,7 +1,7 @@
 -- How the code checks an entry of a claim, from the view of the record, and what it asks before it shows a part. No contract that callers
 -- see cites it; the laws in proofs/Laws/Claims join it to "Legal schedules".
 use Prim.Native.Nat.{ℕ, _≤_}
-use mathlib.Core.Bool.{Bool, _&&_, _||_, cond}
+use mathlib.Core.Bool.{Bool, _&&_, _||_}
 use mathlib.Core.List.{List}
 use mathlib.Core.Path.{_≡_}
 use lib.ListN.{length}
@@ -10,16 +10,13 @@ use Rattle.bits.specs.Below.{greatest, bit}
 use Rattle.zsrm.specs.declared.record.Standing.{Standing}
 use Rattle.zsrm.specs.declared.record.Standing.the-variants.{NotArrived, Unfinished, Finished, Ended}
 use Rattle.zsrm.specs.declared.record.Place.{Place}
-use Rattle.zsrm.specs.declared.record.Record.{Record}
 use Rattle.zsrm.specs.declared.tick.View.{View}
-use Rattle.zsrm.specs.declared.claims.Tried.{Tried}
 use Rattle.zsrm.specs.declared.claims.Replayed.{Replayed}
 use Rattle.zsrm.specs.Given.{Given}
 use Rattle.tables.specs.Tables.{idle, jobCount, arrival, jobNominal, zeroSlackInstant, Lists}
-use Rattle.zsrm.specs.Tick.{advanced}
 use Rattle.zsrm.specs.Code.View.{hasPriority}
 use Rattle.zsrm.specs.Run.{replayed}
-use Rattle.zsrm.specs.Legal.{finishedAt, legalEntry, legalLength}
+use Rattle.zsrm.specs.Legal.{finishedAt, legalLength}
 
 module _ (l : Lists) where
   -- job j, at the place p, makes tick t a scheduling instant, the entry before being last
@@ -33,10 +30,6 @@ module _ (l : Lists) where
   topOrIdle v e =
       (ltb e (jobCount (l .jobs)) && hasPriority l (v .eligible) (greatest 64 (bit (v .ready)) 64) e)
       || (eqb e idle && eqb (v .ready) 0)
-
--- whether the entry is legal, and the record that it leads to
-unfoldable pub tried : Given → Record → ℕ → ℕ → Tried
-tried g r last e = record { legal = legalEntry g r last e; «record» = cond (legalEntry g r last e) (advanced g r e) r }
 
 -- how many entries replaying a schedule finds legal, and where all are, the record at its end
 pub record ReplayedAs (g : Given) (schedule : List ℕ) (r : Replayed) : Type 0 where

@@ -1,31 +1,32 @@
 -- How the code sees a tick: sets of jobs as words, bit j for job j. No contract that callers see cites it; the laws in
 -- proofs/Laws/View join it to "One tick".
-use Prim.Native.Nat.{ℕ, _+_}
+use Prim.Native.Nat.{ℕ, zero, suc, _+_}
 use mathlib.Core.Bool.{Bool, _&&_, cond}
 use lib.Dec.{leb, ltb, eqb}
 use Rattle.bits.specs.Below.{least, greatest, word, bit}
 use Rattle.bits.specs.Word.{without}
 use Rattle.zsrm.specs.declared.record.Record.{Record}
 use Rattle.zsrm.specs.declared.tick.View.{View}
-use Rattle.zsrm.specs.Given.{Given, isSE}
 use Rattle.tables.specs.Tables.{idle, jobCount, jobCriticality, jobPriority, jobNominal, zeroSlackInstant, Lists}
 use Rattle.zsrm.specs.Record.{doneAt}
 use Rattle.zsrm.specs.Tick.{alive, someJob, jobWord}
 
+-- the greatest key among the numbers below the bound that pass, 0 where none does
+unfoldable pub greatestKey : ℕ → (ℕ → Bool) → (ℕ → ℕ) → ℕ
+greatestKey zero f key = 0
+greatestKey (suc n) f key = cond (f n && ltb (greatestKey n f key) (key n)) (key n) (greatestKey n f key)
+
 module _ (l : Lists) where
-  -- job i is in the set, and strictly more critical than c
-  unfoldable pub moreCriticalIn : ℕ → ℕ → ℕ → Bool
-  moreCriticalIn by c i = bit by i && ltb c (jobCriticality l i)
+  -- the greatest criticality among the jobs of a set, 0 where it has none: nothing is less than 0, so nobody is then below it
+  unfoldable pub greatestCriticality : ℕ → ℕ
+  greatestCriticality among = greatestKey (jobCount (l .jobs)) (bit among) (jobCriticality l)
 
-  unfoldable pub someMoreCritical : ℕ → ℕ → Bool
-  someMoreCritical by c = someJob (l .jobs) (moreCriticalIn by c)
-
-  -- job j of one set is less critical than some job of another
+  -- job j is in the set, and strictly less critical than c
   unfoldable pub lessCriticalIn : ℕ → ℕ → ℕ → Bool
-  lessCriticalIn among by j = bit among j && someMoreCritical by (jobCriticality l j)
+  lessCriticalIn among c j = bit among j && ltb (jobCriticality l j) c
 
   unfoldable pub lessCriticalWord : ℕ → ℕ → ℕ
-  lessCriticalWord among by = jobWord (l .jobs) (lessCriticalIn among by)
+  lessCriticalWord among c = jobWord (l .jobs) (lessCriticalIn among c)
 
   -- job j is in the set, and its zero-slack instant has come by t
   unfoldable pub isPast : ℕ → ℕ → ℕ → Bool
@@ -55,13 +56,9 @@ module _ (l : Lists) where
   view r =
       let living = jobWord (l .jobs) (alive r) in
       let past = pastWord living (r .tick) in
-      let eligible = without living (lessCriticalWord living past) in
+      let eligible = without living (lessCriticalWord living (greatestCriticality past)) in
       record { alive = living; past = past; eligible = eligible; ready = priorityWord eligible }
 
   -- the lowest-numbered eligible job of the top priority that is ready
   unfoldable pub chosen : View → ℕ
   chosen v = lowestOf (v .eligible) (greatest 64 (bit (v .ready)) 64)
-
--- the jobs ended in the tick in which the entry e runs
-unfoldable pub endedBy : Given → Record → View → ℕ → ℕ
-endedBy g r v e = cond (isSE (g .mode)) (lessCriticalWord (g .lists) (v .alive) (overrunWord (g .lists) r (v .past) e)) 0

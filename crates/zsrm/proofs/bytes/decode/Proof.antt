@@ -1,6 +1,6 @@
 -- The first i numbers are decoded.
 use Prim.Native.Nat.{_*_, _-_, _≤_}
-use mathlib.Core.Path.{refl}
+use mathlib.Core.Path.{sym, _∙_}
 use native.Mathlib.Omega.{arith}
 use borrow.Author.Needs.{needs}
 use Rattle.bits.proofs.Arrays.{Written, written-all, written-more, written-none}
@@ -15,6 +15,9 @@ Inv-loop bytes numbers₀ i₀ numbers i = (i ≤ 192) × Written 0 (λ k. numbe
 abbrev μ-loop : tie.MeasureT-loop
 μ-loop bytes numbers₀ i₀ numbers i = 192 - i
 
+loop-holds : tie.Need-loop-holds Inv-loop μ-loop
+loop-holds c = (omega arith, written-none 0 _ _ 192 (search needs))
+
 loop-again : tie.Need-loop-again Inv-loop μ-loop
 loop-again c =
     let at = c .before .before .loop in
@@ -26,5 +29,6 @@ returns c = let at = c .before .loop in written-all 0 _ _ (at .numbers) 192 (at 
 
 pub decode-spec : {M : Type 1} → statement M
 decode-spec =
-    tie.close (tie.spec Inv-loop μ-loop (λ c. (omega arith, written-none 0 _ _ 192 refl)) (λ c. search needs) (λ c κs. search needs)
-    (λ c. search needs) (λ c. omega (arith, c .before .before .loop .inv .1 .size)) (λ c. search needs) (λ c. search needs) loop-again returns)
+    tie.close (tie.spec Inv-loop μ-loop loop-holds (λ c. search needs) (λ c κs. search needs)
+    (λ c. search needs) (λ c. omega (arith, c .before .before .loop .inv .1 .size)) (λ c. search needs) (λ c. search needs) loop-again
+    (λ c. c .before .loop .inv .1 .size ∙ sym (c .before .before .before .before .pre)) returns)

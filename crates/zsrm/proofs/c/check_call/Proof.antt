@@ -9,11 +9,11 @@ use Rattle.zsrm.proofs.c.check_call.Tie as tie
 returns : tie.Need-returns
 returns c =
     let m = c .before .before .before .before in
-    let list = m .before .before in
-    called-made _ _ _ _ _ _ _ _ _ _ _ (list .before .decode .ensures) (list .decode2 .ensures) (m .before .spelled .ensures .0) (m .spelled2 .ensures .0) (c .before .check-bytes .ensures) (c .mode-of .ensures)
+    let list = m .before .before .before in
+    called-made _ _ _ _ _ _ _ _ _ _ _ (list .before .before .before .decode .ensures) (list .decode2 .ensures) (m .before .spelled .ensures .0) (m .spelled2 .ensures .0) (c .before .check-bytes .ensures) (c .mode-of .ensures)
 
 pub check-call-spec : {M : Type 1} → statement M
 check-call-spec =
     tie.close
-    (tie.spec (λ c κs. search needs) (λ c κs. search needs) (λ c κs. search needs) (λ c κs. search needs) (λ c. search needs)
+    (tie.spec (λ c. search needs) (λ c κs. search needs) (λ c. search needs) (λ c κs. search needs) (λ c κs. search needs) (λ c κs. search needs) (λ c. search needs)
     (λ c. sym (length-take-le _ _ (search needs))) (λ c. search needs) (λ c. sym (length-take-le _ _ (search needs))) (λ c κs. search needs) (λ c κs. search needs) returns)

@@ -1,4 +1,4 @@
--- The loop has collected the jobs below j that are in the one set and less critical than some job of the other.
+-- The loop has collected the jobs below j that are in the set and less critical than c.
 use Prim.Native.Nat.{_-_, _≤_}
 use mathlib.Core.Path.{_≡_, sym}
 use native.Mathlib.Omega.{arith}
@@ -12,22 +12,22 @@ use Rattle.zsrm.proofs.tick.less_critical_word.Statement.{statement}
 use Rattle.zsrm.proofs.tick.less_critical_word.Tie as tie
 
 abbrev Inv-loop : tie.InvT-loop
-Inv-loop among by tasks jobs n word₀ j₀ w j = (j ≤ n) × (w ≡ word 64 (upTo (lessCriticalIn (lists tasks jobs) among by) j))
+Inv-loop among k tasks jobs n word₀ j₀ w j = (j ≤ n) × (w ≡ word 64 (upTo (lessCriticalIn (lists tasks jobs) among (k .0)) j))
 
 abbrev μ-loop : tie.MeasureT-loop
-μ-loop among by tasks jobs n word₀ j₀ w j = n - j
+μ-loop among k tasks jobs n word₀ j₀ w j = n - j
 
 loop-again : tie.Need-loop-again Inv-loop μ-loop
 loop-again c =
     let at = c .before .before .before in
     let start = c .before .before .before .before .before .before .before in
-    (omega arith, collect (lessCriticalIn (lists (start .args .tasks .now) (start .args .jobs .now)) (start .args .among) (start .args .by)) (at .loop .j) _ _ _ (at .loop .inv .1) (c .before .is-less-critical-in .ensures) (c .with-bit-if .ensures))
+    (omega arith, collect (lessCriticalIn (lists (start .args .tasks .now) (start .args .jobs .now)) (start .args .among) (start .args .c .0)) (at .loop .j) _ _ _ (at .loop .inv .1) (c .before .is-less-critical .ensures) (c .with-bit-if .ensures))
 
 returns : tie.Need-returns Inv-loop μ-loop
 unfolding lessCriticalWord
 returns c =
     let start = c .before .before .before .before .before in
-    collected _ (lessCriticalIn (lists (start .args .tasks .now) (start .args .jobs .now)) (start .args .among) (start .args .by)) _ (c .before .loop .j) _ (c .before .before .job-count .ensures) (omega arith) (omega arith) (c .before .loop .inv .1)
+    collected _ (lessCriticalIn (lists (start .args .tasks .now) (start .args .jobs .now)) (start .args .among) (start .args .c .0)) _ (c .before .loop .j) _ (c .before .before .job-count .ensures) (omega arith) (omega arith) (c .before .loop .inv .1)
 
 pub less-critical-word-spec : {M : Type 1} → statement M
 less-critical-word-spec =
