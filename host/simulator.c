@@ -297,7 +297,7 @@ uint32_t sim_claim(uint32_t mode, const uint8_t *tasks, size_t tasks_len, const 
 /* ---- Verdicts ---- */
 
 static struct sim_fate fate_of(const struct state *s, const struct job *job) {
-    struct sim_fate fate = {SIM_OPEN, 0, 0};
+    struct sim_fate fate = {SIM_OPEN, 0, 0, 0};
     if (job->standing == ENDED)
         fate.verdict = SIM_ENDED;
     else if (job->standing == FINISHED)
@@ -306,6 +306,8 @@ static struct sim_fate fate_of(const struct state *s, const struct job *job) {
         fate.verdict = SIM_LATE;
     fate.has_instant = job->standing == ENDED || job->standing == FINISHED;
     fate.instant = fate.has_instant ? job->instant : 0;
+    if (fate.verdict == SIM_LATE)
+        fate.late = (fate.has_instant ? fate.instant : s->tick) - job->deadline;
     return fate;
 }
 

@@ -18,7 +18,7 @@ struct text {
 };
 
 static struct {
-    unsigned long run, far, refused[REFUSALS], verdicts[4], none;
+    unsigned long run, far, refused[REFUSALS], verdicts[4], exactly, at_least, none;
 } count;
 
 static const char *const verdict_words[4] = {"met", "late", "ended", "open"};
@@ -86,9 +86,15 @@ static void list_jobs(FILE *out, const struct lists *in) {
     struct sim_fate fates[64];
     sim_fates(in->mode, in->tasks, in->jobs, in->jobs_len, in->horizon, fates);
     for (uint32_t j = 0; j < jobs_in(in); j++) {
+        int late = fates[j].verdict == SIM_LATE, known = fates[j].has_instant;
         count.verdicts[fates[j].verdict]++;
-        fprintf(out, fates[j].has_instant ? "job %lu %s %lu\n" : "job %lu %s -\n", (unsigned long)j,
+        count.exactly += late && known;
+        count.at_least += late && !known;
+        fprintf(out, known ? "job %lu %s %lu" : "job %lu %s -", (unsigned long)j,
                 verdict_words[fates[j].verdict], (unsigned long)fates[j].instant);
+        if (late)
+            fprintf(out, known ? " =%lu" : " >=%lu", (unsigned long)fates[j].late);
+        fputc('\n', out);
     }
 }
 
@@ -342,6 +348,8 @@ static void show_counts(void) {
         snprintf(what, sizeof what, "jobs %s", verdict_words[k]);
         show_count(what, count.verdicts[k]);
     }
+    show_count("jobs late by an exact number", count.exactly);
+    show_count("jobs late by at least a number", count.at_least);
     for (size_t k = 0; k < sizeof numbers / sizeof *numbers; k++) {
         snprintf(what, sizeof what, "refused %d", numbers[k]);
         show_count(what, count.refused[numbers[k]]);

@@ -19,8 +19,9 @@ use Rattle.zsrm.specs.declared.mode.Mode.the-variants.{S, SE}
 use Rattle.zsrm.specs.declared.record.Standing.{Standing}
 use Rattle.zsrm.specs.declared.record.Standing.the-variants.{NotArrived, Unfinished, Finished, Ended}
 use Rattle.zsrm.specs.declared.answers.Verdict.{Verdict}
-use Rattle.sheet.specs.Listing.{behindFirst, line, word, instant, verdictLine, letter, entry, longest, longestFrom, refusedLine, runLine, stretch, stretchLines, stretches}
+use Rattle.sheet.specs.Listing.{behindFirst, lateness, line, sign, word, instant, verdictLine, letter, entry, longest, longestFrom, refusedLine, runLine, stretch, stretchLines, stretches}
 use Rattle.sheet.specs.Wrote.{Wrote}
+use Rattle.sheet.specs.Code.{lateText}
 use Rattle.sheet.proofs.Numbers.{sets-sets}
 use Rattle.zsrm.specs.declared.answers.Verdict.the-variants as verdicts
 
@@ -187,7 +188,7 @@ pub word-length : (v : Verdict) → length (word v) ≤ 5
 unfolding word
 word-length (verdicts.Refused number place) = lit≤ tt
 word-length verdicts.Met = lit≤ tt
-word-length verdicts.Late = lit≤ tt
+word-length (verdicts.Late by isExact) = lit≤ tt
 word-length verdicts.Ended = lit≤ tt
 word-length verdicts.Open = lit≤ tt
 
@@ -198,25 +199,50 @@ instant-length Unfinished = lit≤ tt
 instant-length (Finished f) = decimal-length f
 instant-length (Ended e) = decimal-length e
 
+pub mark-length : (b : Bool) → length (32 ∷ sign b) ≤ 3
+mark-length true = lit≤ tt
+mark-length false = lit≤ tt
+
+pub late-length : (v : Verdict) → length (lateText v) ≤ 13
+unfolding lateText
+late-length (verdicts.Refused number place) = lit≤ tt
+late-length verdicts.Met = lit≤ tt
+late-length (verdicts.Late by isExact) = simp length-append (omega (arith, mark-length isExact, decimal-length by))
+late-length verdicts.Ended = lit≤ tt
+late-length verdicts.Open = lit≤ tt
+
+-- the words by how much, as the code writes them
+behind-late : (v : Verdict) → lateText v ++ (10 ∷ []) ≡ behindFirst (lateness v)
+unfolding lateText lateness behindFirst
+behind-late (verdicts.Refused number place) = refl
+behind-late verdicts.Met = refl
+behind-late (verdicts.Late by isExact) = refl
+behind-late verdicts.Ended = refl
+behind-late verdicts.Open = refl
+
+behind-length : (v : Verdict) → length (behindFirst (lateness v)) ≤ 14
+behind-length v = rw (← behind-late v, length-append) (omega (arith, late-length v))
+
 -- a job's line, in the parts that the code writes
-pub wrote-verdict : (v : Verdict) (s : Standing) {l m n o r : List ℕ} {at a b c k : ℕ} → Wrote l at (word v) m a → Wrote m a (32 ∷ []) n b → Wrote n b (instant s) o c
-    → Wrote o c (10 ∷ []) r k
-    → Wrote l at (line (word v) (instant s ∷ [])) r k
+pub wrote-verdict : (v : Verdict) (s : Standing) {l m n o p r : List ℕ} {at a b c d k : ℕ} → Wrote l at (word v) m a → Wrote m a (32 ∷ []) n b → Wrote n b (instant s) o c
+    → Wrote o c (lateText v) p d
+    → Wrote p d (10 ∷ []) r k
+    → Wrote l at (line (word v) (instant s ∷ lateness v)) r k
 unfolding line behindFirst
-wrote-verdict v s w x y z = wrote-more w (wrote-more x (wrote-more y z))
+wrote-verdict v s w x y z e = wrote-more w (wrote-more x (wrote-more y (rw (behind-late v) at (wrote-more z e))))
 
 pub wrote-job : (j : ℕ) (v : Verdict) (s : Standing) {l m n r : List ℕ} {at a b k : ℕ} → Wrote l at (106 ∷ 111 ∷ 98 ∷ 32 ∷ []) m a
     → Wrote m a (decimal j ++ (32 ∷ [])) n b
-    → Wrote n b (line (word v) (instant s ∷ [])) r k
+    → Wrote n b (line (word v) (instant s ∷ lateness v)) r k
     → Wrote l at (verdictLine j v s) r k
 unfolding verdictLine line behindFirst
 wrote-job j v s w x y =
     let whole = wrote-more w (wrote-more x y) in
     rw append-assoc at whole
 
-pub job-length : (j : ℕ) (v : Verdict) (s : Standing) → length (verdictLine j v s) ≤ 32
+pub job-length : (j : ℕ) (v : Verdict) (s : Standing) → length (verdictLine j v s) ≤ 45
 unfolding verdictLine line behindFirst
-job-length j v s = simp length-append (omega (arith, decimal-length j, word-length v, instant-length s))
+job-length j v s = simp length-append (omega (arith, decimal-length j, word-length v, instant-length s, behind-length v))
 
 pub head-length : (mode : Mode) (horizon : ℕ) → length (runLine mode horizon) ≤ 17
 unfolding runLine line behindFirst

@@ -197,7 +197,7 @@ pub listing-reads : (text : List ℕ) (g : Given) (horizon : ℕ) → parsedOf t
     → before (checkLists (g .lists)) (check9 horizon) ≡ Done
     → (ss : List Stretch)
     × Longest (runEntries g horizon) 0 ss horizon
-    × (listing text ≡ runLine (g .mode) horizon ++ (stretchLines ss ++ jobLines g (runRecord g horizon) (jobCount (g .lists .jobs))))
+    × (listing text ≡ runLine (g .mode) horizon ++ (stretchLines ss ++ jobLines (g .lists) (runRecord g horizon) (jobCount (g .lists .jobs))))
 unfolding listing givenListing runListing printed stretches
 listing-reads text g horizon p accepts =
     let runs = unless-done refusedLine (runListing g horizon) (before (checkLists (g .lists)) (check9 horizon)) accepts in

@@ -5,23 +5,26 @@ use mathlib.Core.Logic.{_⊎_}
 use mathlib.Core.Path.{ap, refl, sym, _∙_, _≡_}
 use native.Mathlib.Numerals.{add-one}
 use native.Mathlib.Omega.{arith}
-use lib.ListN.{length, length-append}
+use lib.ListN.{getD, length, length-append}
 use borrow.Author.Tests.{ltb-false}
 use Rattle.tables.specs.declared.outcome.Outcome.{Outcome}
 use Rattle.tables.specs.declared.outcome.Outcome.the-variants.{Done, Refused}
 use Rattle.zsrm.specs.declared.answers.Ran.{Ran}
+use Rattle.zsrm.specs.declared.answers.Judged.{Judged}
 use Rattle.zsrm.specs.declared.answers.Verdict.{Verdict}
+use Rattle.zsrm.specs.declared.answers.Verdicts.{Verdicts}
 use Rattle.zsrm.specs.declared.record.Record.{Record}
 use Rattle.zsrm.specs.declared.record.Standing.{Standing}
 use Rattle.zsrm.specs.declared.mode.Mode.{Mode}
-use Rattle.zsrm.specs.Answers.{checkSchedule, runAnswer, runSchedule, verdictAnswer}
+use Rattle.zsrm.specs.Answers.{checkSchedule, runAnswer, runSchedule, verdictsAnswer}
 use Rattle.zsrm.specs.Record.{consistent, standingAt}
 use Rattle.tables.specs.Refusals.{before, check9, checkLists, unless}
 use Rattle.zsrm.specs.Run.{runEntries, runRecord}
-use Rattle.tables.specs.Tables.{jobCount, lists}
+use Rattle.tables.specs.Tables.{Lists, jobCount, lists}
 use Rattle.zsrm.specs.Verdict.{verdict}
 use Rattle.zsrm.proofs.Laws.Answers.{accepted, run-given, run-outcome, schedule-checked, verdict-answered}
 use Rattle.zsrm.proofs.Laws.Promises.{ran-consistent}
+use Rattle.zsrm.proofs.Promise.{verdicts-each}
 use Rattle.tables.proofs.Laws.Refusals.{before-first, before-second, refuse-fine, unless-done, unless-refused}
 use Rattle.zsrm.proofs.Laws.Run.{length-run}
 use Rattle.sheet.specs.Listing.{behindFirst, givenListing, jobLine, jobLines, verdictLine, line, printed, refusedLine, runLine, runListing, stretches}
@@ -35,30 +38,30 @@ module _ {mode : Mode} {tasks jobs : List ℕ} {r : Record} (w : Sound mode task
   pub few : jobCount jobs ≤ 64
   few = lists-few (lists tasks jobs) (w .lists)
 
-  -- a job's line, with the verdict that the library answers
-  pub job-line : (j : ℕ) {v : Verdict} {s : Standing} → j < jobCount jobs → v ≡ verdictAnswer (given mode tasks jobs) r j → s ≡ standingAt r j
-      → verdictLine j v s ≡ jobLine (given mode tasks jobs) r j
-  unfolding jobLine
-  job-line j {v} {s} l p q =
-      let e : v ≡ verdict (lists tasks jobs) r j = p ∙ verdict-answered (given mode tasks jobs) (w .lists) r (w .sound) j l in
-      rw (e, q)
+  -- all verdicts that the library answers are the verdicts
+  pub all-judged : {all : Verdicts} (d : Judged) → all ≡ verdictsAnswer (given mode tasks jobs) r → (j : ℕ) → j < jobCount jobs
+      → getD (all .of) j d .verdict ≡ verdict (lists tasks jobs) r j
+  all-judged d p j l =
+      ap (λ (x : Verdicts). getD (x .of) j d .verdict) p ∙ verdicts-each (given mode tasks jobs) r j d (omega (arith, few))
+      ∙ verdict-answered (given mode tasks jobs) (w .lists) r (w .sound) j l
 
-module _ (g : Given) (r : Record) where
-  pub wrote-jobs : {l m n : List ℕ} {at k i : ℕ} (j : ℕ) → Wrote l at (jobLines g r j) m k → Wrote m k (jobLine g r j) n i → Wrote l at (jobLines g r (j + 1)) n i
-  unfolding jobLines
-  wrote-jobs j v w = rw add-one (wrote-more v w)
+module _ (l : Lists) (r : Record) where
+  pub wrote-jobs : {v : Verdict} {s : Standing} {before m n : List ℕ} {at k i : ℕ} (j : ℕ) → v ≡ verdict l r j → s ≡ standingAt r j
+      → Wrote before at (jobLines l r j) m k → Wrote m k (verdictLine j v s) n i → Wrote before at (jobLines l r (j + 1)) n i
+  unfolding jobLines jobLine
+  wrote-jobs j p q x y = rw (add-one, ← p, ← q) (wrote-more x y)
 
-  pub jobs-length : (n : ℕ) → length (jobLines g r n) ≤ 32 * n
+  pub jobs-length : (n : ℕ) → length (jobLines l r n) ≤ 45 * n
   unfolding jobLines jobLine
   jobs-length zero = omega arith
-  jobs-length (suc n) = simp length-append (omega (arith, jobs-length n, job-length n (verdict (g .lists) r n) (standingAt r n)))
+  jobs-length (suc n) = simp length-append (omega (arith, jobs-length n, job-length n (verdict l r n) (standingAt r n)))
 
--- 600,000 bytes are room enough: 17 for line 1, 33 for each of 16,384 ticks, 32 for each of 64 jobs
+-- 600,000 bytes are room enough: 17 for line 1, 33 for each of 16,384 ticks, 45 for each of 64 jobs
 module _ (mode : Mode) (horizon : ℕ) (es : List ℕ) (few : length es ≤ 16384) {l m : List ℕ} {k : ℕ} (room : 600000 ≤ length l) (v : Wrote l 0 (runLine mode horizon) m k) where
   pub room-stretches : k + 33 * length es ≤ length m
   room-stretches = omega (arith, v .next-is, wrote-length v, head-length mode horizon)
 
-  pub room-jobs : {n : List ℕ} {i : ℕ} → Wrote m k (stretches es) n i → (j : ℕ) → j ≤ 64 → i + 32 * j ≤ length n
+  pub room-jobs : {n : List ℕ} {i : ℕ} → Wrote m k (stretches es) n i → (j : ℕ) → j ≤ 64 → i + 45 * j ≤ length n
   room-jobs w j h =
       omega (arith, v .next-is, wrote-length v, head-length mode horizon, w .next-is, wrote-length w, stretches-length es)
 
@@ -105,17 +108,17 @@ pub refused-length : (number place : ℕ) → length (refusedLine number place) 
 unfolding refusedLine line behindFirst
 refused-length number place = simp length-append (omega (arith, decimal-length number, decimal-length place))
 
-run-length : (g : Given) (horizon : ℕ) → horizon ≤ 16384 → jobCount (g .lists .jobs) ≤ 64 → length (runListing g horizon) ≤ 542737
+run-length : (g : Given) (horizon : ℕ) → horizon ≤ 16384 → jobCount (g .lists .jobs) ≤ 64 → length (runListing g horizon) ≤ 543569
 unfolding runListing printed
 run-length g horizon h j =
     simp length-append
-    (omega (arith, head-length (g .mode) horizon, stretches-length (runEntries g horizon), length-run g horizon, jobs-length g (runRecord g horizon) (jobCount (g .lists .jobs))))
+    (omega (arith, head-length (g .mode) horizon, stretches-length (runEntries g horizon), length-run g horizon, jobs-length (g .lists) (runRecord g horizon) (jobCount (g .lists .jobs))))
 
-pub given-length : (g : Given) (horizon : ℕ) → length (givenListing g horizon) ≤ 542737
+pub given-length : (g : Given) (horizon : ℕ) → length (givenListing g horizon) ≤ 543569
 unfolding givenListing unless check9
 given-length g horizon = by-check (before (checkLists (g .lists)) (check9 horizon)) refl
   where
-    by-check : (o : Outcome) → before (checkLists (g .lists)) (check9 horizon) ≡ o → length (unless o refusedLine (runListing g horizon)) ≤ 542737
+    by-check : (o : Outcome) → before (checkLists (g .lists)) (check9 horizon) ≡ o → length (unless o refusedLine (runListing g horizon)) ≤ 543569
     by-check Done e =
         run-length g horizon (ltb-false 16384 horizon (refuse-fine _ _ _ (before-second (checkLists (g .lists)) _ e)))
         (lists-few (g .lists) (before-first (checkLists (g .lists)) _ e))

@@ -1,8 +1,8 @@
--- How the code computes: the sheet by value, what the parts of the reading answer, and what the writing of a run asks. The contract of
--- `listing` does not cite it.
+-- How the code computes: the sheet by value, what the parts of the reading answer, what the writing of a run asks, and how lateness is
+-- written. The contract of `listing` does not cite it.
 use Prim.Native.Nat.{ℕ, _/_, _≤_}
 use mathlib.Core.Bool.{false, true}
-use mathlib.Core.List.{List}
+use mathlib.Core.List.{List, [], _∷_, _++_}
 use mathlib.Core.Path.{_≡_}
 use lib.ListN.{length, replicate}
 use lib.Seq.{sets}
@@ -20,6 +20,10 @@ use Rattle.sheet.specs.declared.input.Next.the-variants.{At, Broken}
 use Rattle.sheet.specs.declared.input.Sheet.{Sheet}
 use Rattle.sheet.specs.Grammar.{Numbers, Parsed, bad, got, malformed, parsed, parsedOf}
 use Rattle.zsrm.specs.Given.{given}
+use Rattle.sheet.specs.Listing.{sign}
+use Rattle.zsrm.specs.declared.answers.Verdict.{Verdict}
+use Rattle.decimal.specs.Decimal.{decimal}
+use Rattle.zsrm.specs.declared.answers.Verdict.the-variants as verdicts
 
 -- room for 16 tasks and for 64 jobs, all zeros
 unfoldable pub noTasks : List ℕ
@@ -64,3 +68,11 @@ Few NoHead = Unit {0}
 pub record Sound (mode : Mode) (tasks jobs : List ℕ) (r : Record) : Type 0 where
   pub lists : checkLists (lists tasks jobs) ≡ Done
   pub sound : consistent (given mode tasks jobs) r ≡ true
+
+-- by how much a job is late, behind its line's other words
+unfoldable pub lateText : Verdict → List ℕ
+lateText (verdicts.Refused number place) = []
+lateText verdicts.Met = []
+lateText (verdicts.Late by isExact) = 32 ∷ (sign isExact ++ decimal by)
+lateText verdicts.Ended = []
+lateText verdicts.Open = []

@@ -1,6 +1,6 @@
 -- Document 01, "The listing": the output text, as bytes.
 use Prim.Native.Nat.{ℕ, zero, suc, _+_}
-use mathlib.Core.Bool.{cond}
+use mathlib.Core.Bool.{Bool, cond, false, true}
 use mathlib.Core.List.{List, [], _∷_, _++_}
 use lib.Dec.{eqb}
 use Rattle.decimal.specs.Decimal.{decimal}
@@ -10,7 +10,7 @@ use Rattle.zsrm.specs.declared.record.Record.{Record}
 use Rattle.zsrm.specs.declared.record.Standing.{Standing}
 use Rattle.zsrm.specs.declared.record.Standing.the-variants.{NotArrived, Unfinished, Finished, Ended}
 use Rattle.zsrm.specs.declared.answers.Verdict.{Verdict}
-use Rattle.tables.specs.Tables.{idle, jobCount}
+use Rattle.tables.specs.Tables.{Lists, idle, jobCount}
 use Rattle.tables.specs.Refusals.{before, check9, checkLists, unless}
 use Rattle.zsrm.specs.Record.{standingAt}
 use Rattle.zsrm.specs.Run.{runEntries, runRecord}
@@ -83,7 +83,7 @@ stretches es = stretchLines (longest es)
 unfoldable pub word : Verdict → List ℕ
 word (verdicts.Refused number place) = []
 word verdicts.Met = 109 ∷ 101 ∷ 116 ∷ []
-word verdicts.Late = 108 ∷ 97 ∷ 116 ∷ 101 ∷ []
+word (verdicts.Late by isExact) = 108 ∷ 97 ∷ 116 ∷ 101 ∷ []
 word verdicts.Ended = 101 ∷ 110 ∷ 100 ∷ 101 ∷ 100 ∷ []
 word verdicts.Open = 111 ∷ 112 ∷ 101 ∷ 110 ∷ []
 
@@ -94,23 +94,37 @@ instant Unfinished = dash
 instant (Finished f) = decimal f
 instant (Ended e) = decimal e
 
--- The word `job`, number, verdict, and the instant.
-unfoldable pub verdictLine : ℕ → Verdict → Standing → List ℕ
-verdictLine j verdict standing = line (106 ∷ 111 ∷ 98 ∷ []) (decimal j ∷ word verdict ∷ instant standing ∷ [])
+-- `=` where a number is exact, `>=` where it is at least that
+abbrev pub sign : Bool → List ℕ
+sign true = 61 ∷ []
+sign false = 62 ∷ 61 ∷ []
 
-module _ (g : Given) where
+-- by how much a job is late, for late only, as in `=2` and `>=0`
+unfoldable pub lateness : Verdict → List (List ℕ)
+lateness (verdicts.Refused number place) = []
+lateness verdicts.Met = []
+lateness (verdicts.Late by isExact) = (sign isExact ++ decimal by) ∷ []
+lateness verdicts.Ended = []
+lateness verdicts.Open = []
+
+-- The word `job`, number, verdict, the instant, and by how much.
+unfoldable pub verdictLine : ℕ → Verdict → Standing → List ℕ
+verdictLine j verdict standing = line (106 ∷ 111 ∷ 98 ∷ []) (decimal j ∷ word verdict ∷ instant standing ∷ lateness verdict)
+
+module _ (l : Lists) where
   -- the line of job j from a record
   unfoldable pub jobLine : Record → ℕ → List ℕ
-  jobLine r j = verdictLine j (verdict (g .lists) r j) (standingAt r j)
+  jobLine r j = verdictLine j (verdict l r j) (standingAt r j)
 
   -- the lines of the first n jobs
   unfoldable pub jobLines : Record → ℕ → List ℕ
   jobLines r zero = []
   jobLines r (suc n) = jobLines r n ++ jobLine r n
 
+module _ (g : Given) where
   -- what is printed of entries and the record that they end with: line 1, the stretches, the jobs
   unfoldable pub printed : ℕ → List ℕ → Record → List ℕ
-  printed horizon es r = runLine (g .mode) horizon ++ (stretches es ++ jobLines r (jobCount (g .lists .jobs)))
+  printed horizon es r = runLine (g .mode) horizon ++ (stretches es ++ jobLines (g .lists) r (jobCount (g .lists .jobs)))
 
   -- what is printed of our run
   unfoldable pub runListing : ℕ → List ℕ

@@ -4,12 +4,10 @@ ghost use mathlib.Core.List.{[], _∷_, _++_};
 ghost use Prim.Native.Nat.{_+_, _*_, _≤_, _<_};
 ghost use lib.ListN.{length};
 ghost use Rattle.decimal.specs.Decimal.{decimal};
-ghost use Rattle.sheet.specs.Listing.{entry, instant, jobLine, jobLines, verdictLine, letter, line, refusedLine, runLine, stretch, stretches, word};
+ghost use Rattle.sheet.specs.Listing.{entry, instant, jobLines, lateness, sign, verdictLine, letter, line, refusedLine, runLine, stretch, stretches, word};
 ghost use Rattle.sheet.specs.Wrote.{Wrote};
-ghost use Rattle.sheet.specs.Code.{Sound};
-ghost use Rattle.tables.specs.Tables.{jobCount};
-ghost use Rattle.zsrm.specs.Given.{given};
-ghost use Rattle.zsrm.specs.Verdict.{verdict};
+ghost use Rattle.sheet.specs.Code.{Sound, lateText};
+ghost use Rattle.tables.specs.Tables.{jobCount, lists};
 use decimal::Written;
 use zsrm::IDLE;
 use zsrm::Mode;
@@ -146,7 +144,7 @@ fn put_word(out: &mut [u8], at: usize, verdict: Verdict) -> usize
     match verdict {
         Verdict::Refused(_, _) => at,
         Verdict::Met => put_text(out, at, b"met"),
-        Verdict::Late => put_text(out, at, b"late"),
+        Verdict::Late(_, _) => put_text(out, at, b"late"),
         Verdict::Ended => put_text(out, at, b"ended"),
         Verdict::Open => put_text(out, at, b"open"),
     }
@@ -165,46 +163,61 @@ fn put_instant(out: &mut [u8], at: usize, standing: Standing) -> usize
     }
 }
 
-// The end of a job's line: verdict and instant.
+// What stands before the number by which a job is late.
+fn put_mark(out: &mut [u8], at: usize, exact: bool) -> usize
+    requires { ⌜ at + 3 ≤ length (now out) ⌝ }
+    ensures { λ r. ⌜ Wrote (now (out .entry)) at (32 ∷ sign exact) (now (out .exit)) r ⌝ }
+{
+    if exact {
+        put_text(out, at, b" =")
+    } else {
+        put_text(out, at, b" >=")
+    }
+}
+
+// By how much a job is late.
+fn put_by(out: &mut [u8], at: usize, by: u32, exact: bool) -> usize
+    requires { ⌜ at + 13 ≤ length (now out) ⌝ }
+    ensures { λ r. ⌜ Wrote (now (out .entry)) at (32 ∷ (sign exact ++ decimal by)) (now (out .exit)) r ⌝ }
+{
+    let a = put_mark(out, at, exact);
+    put_number(out, a, by)
+}
+
+// The same, for a late job only.
+fn put_late(out: &mut [u8], at: usize, verdict: Verdict) -> usize
+    requires { ⌜ at + 13 ≤ length (now out) ⌝ }
+    ensures { λ r. ⌜ Wrote (now (out .entry)) at (lateText verdict) (now (out .exit)) r ⌝ }
+{
+    match verdict {
+        Verdict::Refused(_, _) => at,
+        Verdict::Met => at,
+        Verdict::Late(by, exact) => put_by(out, at, by, exact),
+        Verdict::Ended => at,
+        Verdict::Open => at,
+    }
+}
+
+// The end of a job's line: verdict, instant, and by how much it is late.
 fn put_verdict(out: &mut [u8], at: usize, verdict: Verdict, standing: Standing) -> usize
-    requires { ⌜ at + 17 ≤ length (now out) ⌝ }
-    ensures { λ r. ⌜ Wrote (now (out .entry)) at (line (word verdict) (instant standing ∷ [])) (now (out .exit)) r ⌝ }
+    requires { ⌜ at + 30 ≤ length (now out) ⌝ }
+    ensures { λ r. ⌜ Wrote (now (out .entry)) at (line (word verdict) (instant standing ∷ lateness verdict)) (now (out .exit)) r ⌝ }
 {
     let a = put_word(out, at, verdict);
     let b = put_byte(out, a, b' ');
-    let k = put_instant(out, b, standing);
+    let c = put_instant(out, b, standing);
+    let k = put_late(out, c, verdict);
     put_byte(out, k, b'\n')
 }
 
 // The line of job j.
 fn put_job(out: &mut [u8], at: usize, j: u32, verdict: Verdict, standing: Standing) -> usize
-    requires { ⌜ at + 32 ≤ length (now out) ⌝ }
+    requires { ⌜ at + 45 ≤ length (now out) ⌝ }
     ensures { λ r. ⌜ Wrote (now (out .entry)) at (verdictLine j verdict standing) (now (out .exit)) r ⌝ }
 {
     let a = put_text(out, at, b"job ");
     let b = put_field(out, a, j, b' ');
     put_verdict(out, b, verdict, standing)
-}
-
-// The line of job j, from a record.
-fn put_job_at(
-    out: &mut [u8],
-    at: usize,
-    rec: Record,
-    mode: Mode,
-    tasks: &[u32],
-    jobs: &[u32],
-    j: u32,
-) -> usize
-    requires { ⌜ Sound mode (now tasks) (now jobs) rec ⌝ }
-    requires { ⌜ (j < jobCount (now jobs)) × (at + 32 ≤ length (now out)) ⌝ }
-    ensures { λ r. ⌜ Wrote (now (out .entry)) at (jobLine (given mode (now (tasks .entry)) (now (jobs .entry))) rec j) (now (out .exit)) r ⌝ }
-{
-    let verdict = zsrm::verdict(rec, mode, tasks, jobs, j);
-    let i = j as usize;
-    let place = rec.places[i];
-    let standing = place.standing;
-    put_job(out, at, j, verdict, standing)
 }
 
 // The lines of all jobs.
@@ -217,14 +230,19 @@ pub(crate) fn put_jobs(
     jobs: &[u32],
 ) -> usize
     requires { ⌜ Sound mode (now tasks) (now jobs) rec ⌝ }
-    requires { ⌜ at + 32 * jobCount (now jobs) ≤ length (now out) ⌝ }
-    ensures { λ r. ⌜ Wrote (now (out .entry)) at (jobLines (given mode (now (tasks .entry)) (now (jobs .entry))) rec (jobCount (now (jobs .entry)))) (now (out .exit)) r ⌝ }
+    requires { ⌜ at + 45 * jobCount (now jobs) ≤ length (now out) ⌝ }
+    ensures { λ r. ⌜ Wrote (now (out .entry)) at (jobLines (lists (now (tasks .entry)) (now (jobs .entry))) rec (jobCount (now (jobs .entry)))) (now (out .exit)) r ⌝ }
 {
-    let n = (jobs.len() / 3) as u32;
-    let mut j: u32 = 0;
+    let all = zsrm::verdicts(rec, mode, tasks, jobs);
+    let n = jobs.len() / 3;
+    let mut j: usize = 0;
     let mut k = at;
     while j < n {
-        k = put_job_at(out, k, rec, mode, tasks, jobs, j);
+        let judged = all.of[j];
+        let place = rec.places[j];
+        let verdict = judged.verdict;
+        let standing = place.standing;
+        k = put_job(out, k, j as u32, verdict, standing);
         j += 1;
     }
     k

@@ -1,6 +1,7 @@
 // The library's answers as numbers, so that they can be compared, counted and printed: each answer of a call its own small number, a part
-// that is shown NUMBERED and its length, a claim that is not legal NUMBERED and its tick, a refusal REFUSED, its number and 256 times its
-// place.
+// that is shown NUMBERED and its length, a claim that is not legal NUMBERED and its tick, a job that is late AT_LEAST or EXACTLY and by how
+// much, a refusal REFUSED, its number and 256 times its place.
+ghost use Prim.Native.Nat.{_≤_};
 use zsrm::Claim;
 use zsrm::Mode;
 use zsrm::Outcome;
@@ -14,19 +15,21 @@ pub(crate) const LEGAL: u64 = 0;
 
 pub(crate) const MET: u64 = 0;
 
-pub(crate) const LATE: u64 = 1;
+pub(crate) const ENDED: u64 = 1;
 
-pub(crate) const ENDED: u64 = 2;
-
-pub(crate) const OPEN: u64 = 3;
+pub(crate) const OPEN: u64 = 2;
 
 pub(crate) const NOT_MISSED: u64 = 0;
 
-pub(crate) const ACCEPTED: u64 = 2;
+pub(crate) const ACCEPTED_ENDED: u64 = 2;
 
 pub(crate) const EMPTY: u64 = 0;
 
 pub(crate) const NUMBERED: u64 = 65536;
+
+pub(crate) const AT_LEAST: u64 = 500000;
+
+pub(crate) const EXACTLY: u64 = 600000;
 
 pub(crate) const REFUSED: u64 = 1000000;
 
@@ -66,11 +69,26 @@ pub(crate) fn of_claim(claim: Claim) -> u64 {
     }
 }
 
+// What no run can be late by is told as 65536.
+fn told_by(by: u64) -> u64
+    ensures { λ r. ⌜ r ≤ 65536 ⌝ }
+{
+    if by < 65536 { by } else { 65536 }
+}
+
+pub(crate) fn late_by(by: u64, exact: bool) -> u64 {
+    if exact {
+        EXACTLY + told_by(by)
+    } else {
+        AT_LEAST + told_by(by)
+    }
+}
+
 pub(crate) fn of_verdict(verdict: Verdict) -> u64 {
     match verdict {
         Verdict::Refused(number, place) => refused(number, place),
         Verdict::Met => MET,
-        Verdict::Late => LATE,
+        Verdict::Late(by, exact) => late_by(by as u64, exact),
         Verdict::Ended => ENDED,
         Verdict::Open => OPEN,
     }
@@ -81,7 +99,8 @@ pub(crate) fn of_witness(witness: Witness) -> u64 {
         Witness::Refused(number, place) => refused(number, place),
         Witness::NotLegal(t) => NUMBERED + (t as u64),
         Witness::NotMissed => NOT_MISSED,
-        Witness::Accepted => ACCEPTED,
+        Witness::AcceptedLate(by, exact) => late_by(by as u64, exact),
+        Witness::AcceptedEnded => ACCEPTED_ENDED,
     }
 }
 

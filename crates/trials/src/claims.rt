@@ -1,9 +1,9 @@
 // Claims, and on each the witnesses and the parts that are shown. The simulator takes the claim by stretches; what it holds at the claim's
 // end decides the rest.
-use crate::answers::ACCEPTED;
+use crate::answers::ACCEPTED_ENDED;
+use crate::answers::AT_LEAST;
 use crate::answers::EMPTY;
 use crate::answers::ENDED;
-use crate::answers::LATE;
 use crate::answers::LEGAL;
 use crate::answers::NOT_MISSED;
 use crate::answers::NUMBERED;
@@ -59,8 +59,11 @@ fn witness_answer(replay: Replay, key: u32, tasks: &[u32], jobs: &[u32], j: u32)
     }
     let end = replay.end;
     let verdict = verdict_of(end, tasks, jobs, j);
-    if (verdict == LATE) | (verdict == ENDED) {
-        ACCEPTED
+    if verdict == ENDED {
+        return ACCEPTED_ENDED;
+    }
+    if AT_LEAST <= verdict {
+        verdict
     } else {
         NOT_MISSED
     }

@@ -2,9 +2,9 @@
 // list, the words, the record at all 64 places. A refused call must leave the list as it was, answer a blank record, and 0 for every
 // number.
 use crate::answers::ENDED;
-use crate::answers::LATE;
 use crate::answers::MET;
 use crate::answers::OPEN;
+use crate::answers::late_by;
 use crate::answers::mode_of;
 use crate::answers::of_outcome;
 use crate::answers::of_verdict;
@@ -37,6 +37,7 @@ use crate::records::begin;
 use crate::records::consistent;
 use crate::records::holds;
 use crate::records::taken_up;
+use crate::tally::ALL_VERDICTS;
 use crate::tally::BUSY_TICKS;
 use crate::tally::ENDING;
 use crate::tally::FRESH;
@@ -54,6 +55,7 @@ use zsrm::Mode;
 use zsrm::Ran;
 use zsrm::Record;
 use zsrm::Stepped;
+use zsrm::Verdict;
 
 // Whether the entries of a list are those of another from a place on.
 pub(crate) fn alike(got: &[u16], want: &[u16], from: u32) -> bool {
@@ -193,10 +195,9 @@ pub(crate) fn try_step(
     jobs: &[u32],
     rec: Record,
 ) -> Record {
-    let unfit = late(!consistent(rec, case.se, jobs), 11);
     let key = least(
-        lists_key(tasks, jobs),
-        least(unfit, late(rec.tick == 16384, 12)),
+        record_key(case, tasks, jobs, rec),
+        late(rec.tick == 16384, 12),
     );
     let stepped = rec.step(mode_of(case.se), tasks, jobs);
     let got = if key == FINE {
@@ -226,6 +227,11 @@ pub(crate) fn try_steps(
     }
 }
 
+// From a deadline to an instant not before it.
+fn past(instant: u64, due: u64) -> u64 {
+    if due < instant { instant - due } else { 0 }
+}
+
 // The verdict on a job at the simulator's instant.
 pub(crate) fn verdict_of(s: Sim, tasks: &[u32], jobs: &[u32], j: u32) -> u64 {
     let i = (j % 64) as usize;
@@ -236,26 +242,68 @@ pub(crate) fn verdict_of(s: Sim, tasks: &[u32], jobs: &[u32], j: u32) -> u64 {
         return OPEN;
     }
     if fate == 0 {
-        return if wide(s.now) < due { OPEN } else { LATE };
+        return if wide(s.now) < due {
+            OPEN
+        } else {
+            late_by(past(wide(s.now), due), false)
+        };
     }
     if fate % 4 == 2 {
         return ENDED;
     }
-    if due < wide(fate / 4) { LATE } else { MET }
+    if due < wide(fate / 4) {
+        late_by(past(wide(fate / 4), due), true)
+    } else {
+        MET
+    }
+}
+
+// What is wrong with lists or record, as a key.
+fn record_key(case: Case, tasks: &[u32], jobs: &[u32], rec: Record) -> u32 {
+    let unfit = late(!consistent(rec, case.se, jobs), 11);
+    least(lists_key(tasks, jobs), unfit)
+}
+
+// The verdict that must be given on a job.
+fn verdict_due(key: u32, tasks: &[u32], jobs: &[u32], s: Sim, j: u32) -> u64 {
+    let all = least(key, late(jobs.len() / 3 <= (j as usize), 13));
+    if all == FINE {
+        verdict_of(s, tasks, jobs, j)
+    } else {
+        refusal(all)
+    }
 }
 
 // The verdict on a job from any record.
-fn try_verdict(t: &mut Tally, case: Case, tasks: &[u32], jobs: &[u32], rec: Record, j: u32) {
-    let unfit = late(!consistent(rec, case.se, jobs), 11);
-    let unknown = late(jobs.len() / 3 <= (j as usize), 13);
-    let key = least(lists_key(tasks, jobs), least(unfit, unknown));
+fn try_verdict(
+    t: &mut Tally,
+    case: Case,
+    tasks: &[u32],
+    jobs: &[u32],
+    rec: Record,
+    key: u32,
+    j: u32,
+) {
     let got = of_verdict(zsrm::verdict(rec, mode_of(case.se), tasks, jobs, j));
-    let want = if key == FINE {
-        verdict_of(taken_up(rec, jobs), tasks, jobs, j)
-    } else {
-        refusal(key)
-    };
+    let want = verdict_due(key, tasks, jobs, taken_up(rec, jobs), j);
     note(t, VERDICT, j, want, got);
+}
+
+// One of all verdicts.
+fn try_one(t: &mut Tally, tasks: &[u32], jobs: &[u32], s: Sim, key: u32, j: u32, got: Verdict) {
+    let want = verdict_due(key, tasks, jobs, s, j);
+    note(t, ALL_VERDICTS, j, want, of_verdict(got));
+}
+
+// All verdicts at once.
+fn try_all(t: &mut Tally, case: Case, tasks: &[u32], jobs: &[u32], rec: Record, key: u32) {
+    let all = zsrm::verdicts(rec, mode_of(case.se), tasks, jobs);
+    let s = taken_up(rec, jobs);
+    for j in 0..64 {
+        let judged = all.of[j];
+        let verdict = judged.verdict;
+        try_one(t, tasks, jobs, s, key, (j % 64) as u32, verdict);
+    }
 }
 
 // A number beyond every list, which in 16 bits would be 0.
@@ -263,10 +311,12 @@ pub(crate) const FAR_JOB: u32 = 65536;
 
 // The verdicts on all jobs, and on two beyond the list.
 pub(crate) fn try_verdicts(t: &mut Tally, case: Case, tasks: &[u32], jobs: &[u32], rec: Record) {
-    try_verdict(t, case, tasks, jobs, rec, FAR_JOB);
+    let key = record_key(case, tasks, jobs, rec);
+    try_all(t, case, tasks, jobs, rec, key);
+    try_verdict(t, case, tasks, jobs, rec, key, FAR_JOB);
     for j in 0..65 {
         if (j as usize) <= jobs.len() / 3 {
-            try_verdict(t, case, tasks, jobs, rec, j);
+            try_verdict(t, case, tasks, jobs, rec, key, j);
         }
     }
 }

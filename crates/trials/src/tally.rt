@@ -1,5 +1,7 @@
 // What the program counts and writes. Every answer is counted under its call, so what is counted nowhere was not tried; what made a
 // difference is written with all that it takes to repeat the call.
+use crate::answers::AT_LEAST;
+use crate::answers::EXACTLY;
 use crate::answers::NUMBERED;
 use crate::answers::REFUSED;
 use crate::list::Case;
@@ -29,6 +31,8 @@ pub(crate) const WITNESS: usize = 160;
 pub(crate) const PART: usize = 192;
 
 pub(crate) const CLAIM: usize = 224;
+
+pub(crate) const ALL_VERDICTS: usize = 480;
 
 // What is counted beside the answers.
 pub(crate) const IDLE_TICKS: usize = 33;
@@ -61,10 +65,13 @@ pub(crate) fn add(t: &mut Tally, what: usize, by: u32) {
     }
 }
 
-// The place of an answer among the counts of its call: what is told with a number is the second.
+// The place of an answer among the counts of its call: what is told with a number is the second, what is late the fourth and fifth.
 fn class(answer: u64) -> usize {
     if REFUSED <= answer {
         return 16 + ((answer - REFUSED) % 16) as usize;
+    }
+    if AT_LEAST <= answer {
+        return if answer < EXACTLY { 3 } else { 4 };
     }
     if NUMBERED <= answer {
         1
@@ -165,10 +172,26 @@ pub(crate) fn report(t: &Tally) {
     );
     line(t, b"  fresh done:", FRESH, 1);
     line(t, b"  step done, ending a job:", STEP, 2);
-    line(t, b"  verdict met, late, ended, open:", VERDICT, 4);
-    line(t, b"  witness not missed, not legal, accepted:", WITNESS, 3);
+    line(
+        t,
+        b"  verdict met, ended, open, late by at least, by exactly:",
+        VERDICT,
+        5,
+    );
+    line(
+        t,
+        b"  witness not missed, not legal, accepted for ended, for late by at least, by exactly:",
+        WITNESS,
+        5,
+    );
     line(t, b"  part empty, shown:", PART, 2);
     claims(t);
+    line(
+        t,
+        b"  verdicts, each of the 64, as verdict:",
+        ALL_VERDICTS,
+        5,
+    );
 }
 
 fn numbers(name: &[u8], list: &[u32]) {

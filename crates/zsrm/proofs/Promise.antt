@@ -3,34 +3,37 @@
 -- `claimAnswer g horizon schedule` is what the claim check answers: each `..Answer`, and for the calls from C each `..Result`, is the whole
 -- contract of its function in src/, which takes any input and returns; with `runSchedule` and `runBytes` for what a run writes. `checkLists`,
 -- `checkStep`, `checkSchedule`, `checkVerdict` and `checkWitness` are the checks of each entry point, in the order of their numbers.
--- `..Said` says an answer in numbers, and Said gives each its name: `done`, `refused number place`, `legal`, `notLegal t`, `met`, `late`,
--- `ended`, `accepted`, `notMissed`, `unfinished`, `finishedAt f`, `endedIn e`. `recordBefore g schedule t` is the record before tick t of the schedule,
--- and `replayed g schedule` the one at its end. All of them are definitions of specs/. Laws/Promises has `topmost-example`, a table that
--- meets the premise of (ii).
+-- `..Said` says an answer in numbers, and Said gives each its name: `done`, `refused number place`, `legal`, `notLegal t`, `met`,
+-- `late n isExact`, `ended`, `acceptedLate n isExact`, `acceptedEnded`, `notMissed`, `unfinished`, `finishedAt f`, `endedIn e`.
+-- `recordBefore g schedule t` is the record before tick t of the schedule, `replayed g schedule` the one at its end, and
+-- `replay g r entries` the one that entries lead to from r. All of them are definitions of specs/. Laws/Promises has `topmost-example`, a
+-- table that meets the premise of (ii).
 use Prim.Native.Nat.{_*_, _+_, _-_, _<_, ℕ, _≤_}
-use mathlib.Core.Bool.{true}
+use mathlib.Core.Bool.{Bool, false, true}
 use mathlib.Core.List.{List}
-use mathlib.Core.Logic.{_↔_, _⊎_}
-use mathlib.Core.Path.{ap, refl, subst, _≡_, _∙_}
+use mathlib.Core.Logic.{_↔_}
+use mathlib.Core.Path.{ap, refl, subst, sym, _≡_, _∙_}
 use native.Mathlib.Omega.{arith}
 use lib.ListN.{getD, length}
+use Rattle.zsrm.specs.declared.answers.Judged.{Judged}
 use Rattle.zsrm.specs.declared.record.Record.{Record}
 use Rattle.zsrm.specs.declared.record.Standing.the-variants.{Finished}
-use Rattle.zsrm.specs.Answers.{checkSchedule, checkStep, checkVerdict, checkWitness, claimAnswer, freshAnswer, ran, refusedStep, responseAnswer, runAnswer, runSchedule, stepAnswer, stepped, stepsFrom, verdictAnswer, witnessAnswer}
+use Rattle.zsrm.specs.Answers.{checkSchedule, checkStep, checkVerdict, checkWitness, claimAnswer, freshAnswer, ran, refusedStep, responseAnswer, judgedAt, runAnswer, runSchedule, stepAnswer, stepped, stepsFrom, verdictAnswer, verdictsAnswer, witnessAnswer}
 use Rattle.zsrm.specs.Record.{blank, consistent, fresh, standingAt}
 use Rattle.tables.specs.Refusals.{checkLists}
-use Rattle.zsrm.specs.Run.{replayed, recordBefore}
-use Rattle.zsrm.specs.Said.{accepted, claimSaid, ended, endedIn, finishedAt, late, legal, met, notLegal, notMissed, standingSaid, unfinished, verdictSaid, witnessSaid}
+use Rattle.zsrm.specs.Run.{replay, replayed, recordBefore}
+use Rattle.zsrm.specs.Said.{acceptedEnded, acceptedLate, claimSaid, ended, endedIn, finishedAt, late, legal, met, notLegal, notMissed, standingSaid, unfinished, verdictSaid, witnessSaid}
 use Rattle.tables.specs.Said.{done, outcomeSaid, refused}
 use Rattle.zsrm.specs.Given.{Given}
-use Rattle.tables.specs.Tables.{arrival, deadlineInstant, idle, jobCount, jobCriticality, taskOf, zeroSlackInstant, lists}
+use Rattle.tables.specs.Tables.{arrival, deadline, deadlineInstant, idle, jobCount, jobCriticality, taskOf, zeroSlackInstant, lists}
 use Rattle.zsrm.specs.Topmost.{Topmost, assured}
 use Rattle.zsrm.specs.Verdict.{emptyPart}
 use Rattle.zsrm.proofs.Laws.Answers.{is-legal, met-answer, run-claim, run-outcome}
 use Rattle.zsrm.proofs.Laws.Consistent.{pending-alive}
-use Rattle.zsrm.proofs.Laws.Promises.{accepted-says, met-not-missed, missed-accepted, ran-consistent, ran-entry, ran-replayed, ran-step-done, ran-steps, run-checked, run-refused-keeps, shown-entries, shown-from, shown-length}
+use Rattle.zsrm.proofs.Laws.Promises.{ended-accepted, late-accepted, met-not-missed, ran-consistent, ran-entry, ran-replayed, ran-step-done, ran-steps, run-checked, run-refused-keeps, shown-entries, shown-from, shown-length}
 use Rattle.zsrm.proofs.Laws.Replay.{legal-at, legal-may, replayed-is, tick-recordBefore}
-use Rattle.zsrm.proofs.Laws.Said.{standing-said}
+use Rattle.bits.proofs.Below.{getD-list}
+use Rattle.zsrm.proofs.Laws.Said.{finish-told, standing-said}
 use Rattle.zsrm.proofs.Laws.Tick.{dispatch-serves, past-exactly}
 use Rattle.zsrm.proofs.Laws.Topmost.{assured-in-time, topmost-finished}
 use Rattle.zsrm.proofs.Readings.{LeastIllegal, LegalAt}
@@ -153,28 +156,56 @@ module _ (g : Given) (horizon : ℕ) (schedule : List ℕ) where
       ↔ (outcomeSaid (checkSchedule (g .lists) horizon (length schedule)) ≡ done) × LeastIllegal g schedule t
   not-legal-exactly = exactly.not-legal-exactly g horizon schedule
 
-  -- A witness is accepted exactly when its schedule is legal and the named job is in the list and late or ended in it.
-  pub witness-exactly : (j : ℕ) → witnessSaid (witnessAnswer g horizon schedule j) ≡ accepted
-      ↔ (claimSaid (claimAnswer g horizon schedule) ≡ legal) × (j < jobCount (g .lists .jobs))
-      × ((verdictSaid (verdictAnswer g (replayed g schedule) j) ≡ late) ⊎ (verdictSaid (verdictAnswer g (replayed g schedule) j) ≡ ended))
-  witness-exactly j = (accepted-says g horizon schedule j, λ w. missed-accepted g horizon schedule j (w .0) (w .1) (w .2))
+  -- A witness is accepted exactly when its schedule is legal and the named job is in the list and late or ended in it; against a late job
+  -- it carries by how much, and whether that is exact.
+  pub witness-exactly : (j n : ℕ) (isExact : Bool) → witnessSaid (witnessAnswer g horizon schedule j) ≡ acceptedLate n isExact
+      ↔ (claimSaid (claimAnswer g horizon schedule) ≡ legal) × (j < jobCount (g .lists .jobs)) × (verdictSaid (verdictAnswer g (replayed g schedule) j) ≡ late n isExact)
+  witness-exactly j n isExact = late-accepted g horizon schedule j n isExact
 
--- A verdict from a record that passes the checks: met exactly when the job finished by arrival + D, late when it finished later or is
--- unfinished with the record's tick at or past that instant, ended when it was ended.
+  pub witness-ended-exactly : (j : ℕ) → witnessSaid (witnessAnswer g horizon schedule j) ≡ acceptedEnded
+      ↔ (claimSaid (claimAnswer g horizon schedule) ≡ legal) × (j < jobCount (g .lists .jobs)) × (verdictSaid (verdictAnswer g (replayed g schedule) j) ≡ ended)
+  witness-ended-exactly j = ended-accepted g horizon schedule j
+
+-- A verdict from a record that passes the checks: met exactly when the job finished by arrival + D; late by exactly n when it finished n
+-- ticks, one or more, after that instant; late by at least n when it is unfinished n ticks, none or more, after it; ended when it was ended.
 module _ (g : Given) (r : Record) (j : ℕ) where
   pub met-exactly : verdictSaid (verdictAnswer g r j) ≡ met
       ↔ (outcomeSaid (checkVerdict g r j) ≡ done) × ((f : ℕ) × (standingSaid (standingAt r j) ≡ finishedAt f) × (f ≤ deadlineInstant (g .lists) j))
   met-exactly = exactly.met-exactly g r j
 
-  pub late-exactly : verdictSaid (verdictAnswer g r j) ≡ late
-      ↔ (outcomeSaid (checkVerdict g r j) ≡ done)
-      × (((f : ℕ) × (standingSaid (standingAt r j) ≡ finishedAt f) × (deadlineInstant (g .lists) j < f))
-      ⊎ ((standingSaid (standingAt r j) ≡ unfinished) × (deadlineInstant (g .lists) j ≤ r .tick)))
-  late-exactly = exactly.late-exactly g r j
+  pub late-exactly : (n : ℕ) → verdictSaid (verdictAnswer g r j) ≡ late n true
+      ↔ (outcomeSaid (checkVerdict g r j) ≡ done) × (standingSaid (standingAt r j) ≡ finishedAt (deadlineInstant (g .lists) j + n)) × (0 < n)
+  late-exactly n = exactly.late-exactly g r j n
+
+  pub late-at-least : (n : ℕ) → verdictSaid (verdictAnswer g r j) ≡ late n false
+      ↔ (outcomeSaid (checkVerdict g r j) ≡ done) × (standingSaid (standingAt r j) ≡ unfinished) × (r .tick ≡ deadlineInstant (g .lists) j + n)
+  late-at-least n = exactly.late-at-least g r j n
 
   pub ended-exactly : verdictSaid (verdictAnswer g r j) ≡ ended
       ↔ (outcomeSaid (checkVerdict g r j) ≡ done) × ((e : ℕ) × (standingSaid (standingAt r j) ≡ endedIn e))
   ended-exactly = exactly.ended-exactly g r j
+
+  -- The exact number of a finished job is its response minus D.
+  pub late-response : (n f : ℕ) → verdictSaid (verdictAnswer g r j) ≡ late n true → standingSaid (standingAt r j) ≡ finishedAt f
+      → f - arrival (g .lists .jobs) j ≡ deadline (g .lists .tasks) (taskOf (g .lists .jobs) j) + n
+  unfolding deadlineInstant
+  late-response n f says at = let w = late-exactly n .0 says in let same : f ≡ deadlineInstant (g .lists) j + n = finish-told (sym at ∙ w .1) in omega arith
+
+  -- Whatever entries follow a record at which a job is late by at least n, a run's or any others: if it then finishes, it does so more than
+  -- n ticks after arrival + D ..
+  pub late-finishes : (n f : ℕ) (entries : List ℕ) → verdictSaid (verdictAnswer g r j) ≡ late n false
+      → standingSaid (standingAt (replay g r entries) j) ≡ finishedAt f → deadlineInstant (g .lists) j + n < f
+  late-finishes n f entries says at = exactly.late-finishes g r j n entries says f at
+
+  -- .. and wherever it is late afterwards, it is late by n or more.
+  pub late-grows : (n m : ℕ) (isExact : Bool) (entries : List ℕ) → verdictSaid (verdictAnswer g r j) ≡ late n false
+      → verdictSaid (verdictAnswer g (replay g r entries) j) ≡ late m isExact → n ≤ m
+  late-grows n m isExact entries says later = exactly.late-grows g r j n entries says m isExact later
+
+-- All verdicts at once are the verdicts one by one, refusals too.
+pub verdicts-each : (g : Given) (r : Record) (j : ℕ) (d : Judged) → j < 64 → getD (verdictsAnswer g r .of) j d .verdict ≡ verdictAnswer g r j
+unfolding verdictsAnswer judgedAt
+verdicts-each g r j d l = ap (λ (x : Judged). x .verdict) (getD-list 64 (judgedAt g r) j d l)
 
 -- The calls from C, over the lists that the bytes spell: 0 is "done" of a run and "legal" of a claim, 65,536 + t is "not legal at t"; the
 -- bytes that a run then has written are our run's, and the claim check calls them legal.

@@ -1,11 +1,11 @@
 -- Document 01 with its "some", "every", "exactly when", "least" and "lowest" said by quantifiers, sentence by sentence in its order, each
 -- proved of the definition that computes it. A test holds where it is `true`; a later sentence uses the words of earlier ones.
 -- g is what is given, r the record at tick t, e the tick's entry, p the entry before.
-use Prim.Native.Nat.{_<_, suc, ℕ, _≤_}
+use Prim.Native.Nat.{_+_, _-_, _<_, suc, ℕ, _≤_}
 use mathlib.Core.Bool.{_&&_, Bool, cond, false, or-assoc, true}
 use mathlib.Core.List.{List, _∷_}
 use mathlib.Core.Logic.{Iff·rfl, Iff·trans, inl, inr, _↔_, _≢_, _⊎_, ⊎-elim}
-use mathlib.Core.Path.{ap, refl, subst, sym, _≡_}
+use mathlib.Core.Path.{ap, refl, subst, sym, _∙_, _≡_}
 use native.Mathlib.Omega.{arith}
 use lib.Count.{ones}
 use lib.Dec.{eqb, leb, ltb}
@@ -28,7 +28,7 @@ use Rattle.zsrm.specs.Given.{isSE, Given}
 use Rattle.zsrm.specs.Run.{replayed, recordBefore}
 use Rattle.tables.specs.Tables.{arrival, deadlineInstant, execution, idle, jobCount, jobCriticality, jobNominal, jobPriority, zeroSlackInstant}
 use Rattle.zsrm.specs.Tick.{advanced, alive, candidate, choice, doneAfter, eligible, endedWord, ends, finishes, jobWord, moreCritical, over, pastZeroSlack, readyAt, readyCount, readyWord, someJob, suspended}
-use Rattle.zsrm.specs.Verdict.{answered, judged, missed, verdict, witness}
+use Rattle.zsrm.specs.Verdict.{answered, blamed, judged, missed, verdict, witness}
 use Rattle.zsrm.proofs.Laws.Places.{done-advanced, alive-unfinished, standing-alive}
 use Rattle.zsrm.proofs.Laws.Ready.{ready-ones, ready-exactly}
 use Rattle.zsrm.proofs.Laws.Replay.{legal-at, Beginning, beginning, beginning-is}
@@ -257,12 +257,13 @@ claim-not-refused g es number place =
     by-cond (λ c. c ≢ claims.Refused number place) (isLegal g es) Legal (NotLegal (legalLength g es)) (λ q e. apart (cc)) (λ q e. apart (cc))
 
 -- "Verdict from a consistent record .., H being its own tick: ended; met if finished at f ≤ arrival + D; late if finished later, or alive
--- with H ≥ arrival + D; open otherwise."
+-- with H ≥ arrival + D; open otherwise." And by how much: exactly n where it finished n ticks, one or more, after arrival + D; at least n
+-- where it is alive n ticks, none or more, after it.
 abbrev pub Judged : Given → Record → ℕ → Verdict → Type 0
 Judged g r j verdicts.Ended = (e : ℕ) × (standingAt r j ≡ Ended e)
 Judged g r j verdicts.Met = (f : ℕ) × (standingAt r j ≡ Finished f) × (f ≤ deadlineInstant (g .lists) j)
-Judged g r j verdicts.Late =
-    ((f : ℕ) × (standingAt r j ≡ Finished f) × (deadlineInstant (g .lists) j < f)) ⊎ ((alive r j ≡ true) × (deadlineInstant (g .lists) j ≤ r .tick))
+Judged g r j (verdicts.Late n true) = (standingAt r j ≡ Finished (deadlineInstant (g .lists) j + n)) × (0 < n)
+Judged g r j (verdicts.Late n false) = (alive r j ≡ true) × (r .tick ≡ deadlineInstant (g .lists) j + n)
 Judged g r j verdicts.Open = (standingAt r j ≡ NotArrived) ⊎ ((alive r j ≡ true) × (r .tick < deadlineInstant (g .lists) j))
 Judged g r j (verdicts.Refused number place) = ⊥
 
@@ -279,29 +280,36 @@ verdict-reads g r j v = (λ e. subst J e (holds (standingAt r j) refl), back v)
     holds : (s : Standing) → standingAt r j ≡ s → J (judged D (r .tick) s)
     holds (Ended e) q = (e, q)
     holds (Finished f) q =
-        by-cond J (leb f D) verdicts.Met verdicts.Late (λ h. (f, q, leb-true f D h)) (λ h. inl (f, q, leb-false f D h))
+        by-cond J (leb f D) verdicts.Met (verdicts.Late (f - D) true) (λ h. (f, q, leb-true f D h))
+        (λ h. let l = leb-false f D h in (q ∙ ap Finished (omega arith), omega arith))
     holds Unfinished q =
         let a = alive-reads r j .1 q in
-        by-cond J (leb D (r .tick)) verdicts.Late verdicts.Open (λ h. inr (a, leb-true D (r .tick) h)) (λ h. inr (a, leb-false D (r .tick) h))
+        by-cond J (leb D (r .tick)) (verdicts.Late (r .tick - D) false) verdicts.Open (λ h. let l = leb-true D (r .tick) h in (a, omega arith))
+        (λ h. inr (a, leb-false D (r .tick) h))
     holds NotArrived q = inl q
 
     back : (v : Verdict) → J v → verdict (g .lists) r j ≡ v
     back verdicts.Ended w = rw (w .1)
     back verdicts.Met w = rw (w .1, le-leb (w .0) D (w .2))
-    back verdicts.Late (inl w) = rw (w .1, lt-leb (w .0) D (w .2))
-    back verdicts.Late (inr w) = rw (alive-reads r j .0 (w .0), le-leb D (r .tick) (w .1))
+    back (verdicts.Late n true) w =
+        rw (w .0, lt-leb (D + n) D (omega (arith, w .1))) (ap (λ (m : ℕ). verdicts.Late m true) (omega arith))
+    back (verdicts.Late n false) w =
+        rw (alive-reads r j .0 (w .0), le-leb D (r .tick) (omega (arith, w .1))) (ap (λ (m : ℕ). verdicts.Late m false) (omega (arith, w .1)))
     back verdicts.Open (inl w) = rw w
     back verdicts.Open (inr w) = rw (alive-reads r j .0 (w .0), lt-leb D (r .tick) (w .1))
     back (verdicts.Refused number place) w = absurd w
 
 -- "Missed means late or ended."
-pub missed-reads : (v : Verdict) → missed v ≡ true ↔ (v ≡ verdicts.Late) ⊎ (v ≡ verdicts.Ended)
-missed-reads v = (there v, ⊎-elim (λ e. rw e) (λ e. rw e))
+abbrev pub IsLate : Verdict → Type 0
+IsLate v = (n : ℕ) × (isExact : Bool) × (v ≡ verdicts.Late n isExact)
+
+pub missed-reads : (v : Verdict) → missed v ≡ true ↔ IsLate v ⊎ (v ≡ verdicts.Ended)
+missed-reads v = (there v, ⊎-elim (λ e. rw (e .2)) (λ e. rw e))
   where
-    there : (v : Verdict) → missed v ≡ true → (v ≡ verdicts.Late) ⊎ (v ≡ verdicts.Ended)
+    there : (v : Verdict) → missed v ≡ true → IsLate v ⊎ (v ≡ verdicts.Ended)
     there (verdicts.Refused number place) h = apart (cc)
     there verdicts.Met h = apart (cc)
-    there verdicts.Late h = inl refl
+    there (verdicts.Late n isExact) h = inl (n, isExact, refl)
     there verdicts.Ended h = inr refl
     there verdicts.Open h = apart (cc)
 
@@ -309,31 +317,43 @@ missed-reads v = (there v, ⊎-elim (λ e. rw e) (λ e. rw e))
 abbrev pub Answered : Given → List ℕ → ℕ → Witness → Type 0
 Answered g es j (witnesses.NotLegal t) = claim g es ≡ NotLegal t
 Answered g es j witnesses.NotMissed = (claim g es ≡ Legal) × (missed (verdict (g .lists) (replayed g es) j) ≡ false)
-Answered g es j witnesses.Accepted = (claim g es ≡ Legal) × (missed (verdict (g .lists) (replayed g es) j) ≡ true)
+Answered g es j (witnesses.AcceptedLate n isExact) = (claim g es ≡ Legal) × (verdict (g .lists) (replayed g es) j ≡ verdicts.Late n isExact)
+Answered g es j witnesses.AcceptedEnded = (claim g es ≡ Legal) × (verdict (g .lists) (replayed g es) j ≡ verdicts.Ended)
 Answered g es j (witnesses.Refused number place) = ⊥
 
 pub witness-reads : (g : Given) (es : List ℕ) (j : ℕ) (w : Witness) → witness g es j ≡ w ↔ Answered g es j w
 unfolding witness claim
-witness-reads g es j w = (λ e. subst (λ (x : Witness). Answered g es j x) e (holds (isLegal g es) refl b refl), back w)
+witness-reads g es j w = (λ e. subst (λ (x : Witness). Answered g es j x) e (holds (isLegal g es) refl v refl), back w)
   where
-    b : Bool
-    b = missed (verdict (g .lists) (replayed g es) j)
+    v : Verdict
+    v = verdict (g .lists) (replayed g es) j
 
     n : ℕ
     n = legalLength g es
 
-    holds : (l : Bool) → isLegal g es ≡ l → (m : Bool) → b ≡ m → Answered g es j (answered l n m)
-    holds false q m k = rw q
-    holds true q false k = (rw q, k)
-    holds true q true k = (rw q, k)
+    holds : (l : Bool) → isLegal g es ≡ l → (x : Verdict) → v ≡ x → Answered g es j (answered l n x)
+    holds false q x k = rw q
+    holds true q (verdicts.Refused number place) k = (rw q, ap missed k)
+    holds true q verdicts.Met k = (rw q, ap missed k)
+    holds true q (verdicts.Late by isExact) k = (rw q, k)
+    holds true q verdicts.Ended k = (rw q, k)
+    holds true q verdicts.Open k = (rw q, ap missed k)
 
     legal : claim g es ≡ Legal → isLegal g es ≡ true
     legal = by-cond (λ c. c ≡ Legal → isLegal g es ≡ true) (isLegal g es) Legal (NotLegal n) (λ q e. q) (λ q e. apart (cc))
 
+    spared : (x : Verdict) → missed x ≡ false → blamed x ≡ witnesses.NotMissed
+    spared (verdicts.Refused number place) h = refl
+    spared verdicts.Met h = refl
+    spared (verdicts.Late by isExact) h = apart (cc)
+    spared verdicts.Ended h = apart (cc)
+    spared verdicts.Open h = refl
+
     back : (w : Witness) → Answered g es j w → witness g es j ≡ w
     back (witnesses.NotLegal t) a =
-        by-cond (λ c. c ≡ NotLegal t → answered (isLegal g es) n b ≡ witnesses.NotLegal t) (isLegal g es) Legal (NotLegal n) (λ q e. apart (cc))
+        by-cond (λ c. c ≡ NotLegal t → answered (isLegal g es) n v ≡ witnesses.NotLegal t) (isLegal g es) Legal (NotLegal n) (λ q e. apart (cc))
         (λ q e. let same : n ≡ t = cc in rw q (ap witnesses.NotLegal same)) a
-    back witnesses.NotMissed a = rw (legal (a .0), a .1)
-    back witnesses.Accepted a = rw (legal (a .0), a .1)
+    back witnesses.NotMissed a = rw (legal (a .0)) (spared v (a .1))
+    back (witnesses.AcceptedLate by isExact) a = rw (legal (a .0), a .1)
+    back witnesses.AcceptedEnded a = rw (legal (a .0), a .1)
     back (witnesses.Refused number place) a = absurd a

@@ -9,10 +9,11 @@ use Rattle.zsrm.proofs.c.zsrm_run.Reads as zsrm-run
 use Rattle.zsrm.proofs.claims.claim.Reads as claim
 use Rattle.zsrm.proofs.record.Record.fresh.Reads as fresh
 use Rattle.zsrm.proofs.record.Record.step.Reads as step
+use Rattle.zsrm.proofs.judging.response.Reads as response
+use Rattle.zsrm.proofs.judging.verdict.Reads as verdict
+use Rattle.zsrm.proofs.judging.verdicts.Reads as verdicts
+use Rattle.zsrm.proofs.judging.witness.Reads as witness
 use Rattle.zsrm.proofs.runs.run.Reads as run
-use Rattle.zsrm.proofs.verdicts.response.Reads as response
-use Rattle.zsrm.proofs.verdicts.verdict.Reads as verdict
-use Rattle.zsrm.proofs.verdicts.witness.Reads as witness
 
 pub fresh-one : (κs : Lfts 2) (a : _) (r s : _) (e f : _) → fresh.Learnt κs a r e → fresh.Learnt κs a s f → r ≡ s
 fresh-one κs a r s e f p q = p ∙ sym q
@@ -28,6 +29,9 @@ claim-one κs a r s e f p q = p ∙ sym q
 
 pub verdict-one : (κs : Lfts 2) (a : _) (r s : _) (e f : _) → verdict.Learnt κs a r e → verdict.Learnt κs a s f → r ≡ s
 verdict-one κs a r s e f p q = p ∙ sym q
+
+pub verdicts-one : (κs : Lfts 2) (a : _) (r s : _) (e f : _) → verdicts.Learnt κs a r e → verdicts.Learnt κs a s f → r ≡ s
+verdicts-one κs a r s e f p q = p ∙ sym q
 
 pub witness-one : (κs : Lfts 3) (a : _) (r s : _) (e f : _) → witness.Learnt κs a r e → witness.Learnt κs a s f → r ≡ s
 witness-one κs a r s e f p q = p ∙ sym q

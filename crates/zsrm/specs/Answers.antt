@@ -9,8 +9,11 @@ use Rattle.tables.specs.declared.outcome.Outcome.the-variants.{Done, Refused}
 use Rattle.zsrm.specs.declared.answers.Ran.{Ran}
 use Rattle.zsrm.specs.declared.answers.Stepped.{Stepped}
 use Rattle.zsrm.specs.declared.answers.Claim.{Claim}
+use Rattle.zsrm.specs.declared.answers.Judged.{Judged}
 use Rattle.zsrm.specs.declared.answers.Verdict.{Verdict}
+use Rattle.zsrm.specs.declared.answers.Verdicts.{Verdicts}
 use Rattle.zsrm.specs.declared.answers.Witness.{Witness}
+use Rattle.bits.specs.Below.{listFrom}
 use Rattle.zsrm.specs.Given.{Given}
 use Rattle.tables.specs.Refusals.{before, checkLists, check9, check10, check13, unless}
 use Rattle.zsrm.specs.Record.{check11, check12, blank, fresh, consistent}
@@ -84,6 +87,13 @@ module _ (g : Given) where
 
   unfoldable pub verdictAnswer : Record → ℕ → Verdict
   verdictAnswer r j = unless (checkVerdict g r j) verdicts.Refused (verdict (g .lists) r j)
+
+  -- all verdicts at once: for each job number below 64, in the list or not, what `verdict` answers
+  unfoldable pub judgedAt : Record → ℕ → Judged
+  judgedAt r j = record { verdict = verdictAnswer r j }
+
+  unfoldable pub verdictsAnswer : Record → Verdicts
+  verdictsAnswer r = record { of = listFrom 0 64 (judgedAt r) }
 
   unfoldable pub witnessAnswer : ℕ → List ℕ → ℕ → Witness
   witnessAnswer horizon schedule j = unless (checkWitness (g .lists) horizon (length schedule) j) witnesses.Refused (witness g schedule j)

@@ -1,7 +1,9 @@
 -- Every answer said in numbers, and each under its name: what the promises speak in. A refusal is its number and its place, two numbers as
--- in every kind of answer (`refused` in tables, beside `done`); every other answer is one. Document 01 has the numbers of "legal" and "not
--- legal at t", the others are ours. Within one kind of answer equal numbers are equal answers (proofs/Laws/Said).
+-- in every kind of answer (`refused` in tables, beside `done`); an answer about a late job is three numbers, any other is one. Document 01
+-- has the numbers of "legal" and "not legal at t", the others are ours. Within one kind of answer equal numbers are equal answers
+-- (proofs/Laws/Said).
 use Prim.Native.Nat.{ℕ, _+_}
+use mathlib.Core.Bool.{Bool, true, false}
 use mathlib.Core.List.{List, [], _∷_}
 use Rattle.zsrm.specs.declared.record.Standing.{Standing}
 use Rattle.zsrm.specs.declared.answers.Claim.{Claim}
@@ -25,12 +27,17 @@ claimSaid (claims.Refused number place) = refused number place
 claimSaid claims.Legal = legal
 claimSaid (claims.NotLegal t) = notLegal t
 
--- of a verdict
+-- exact or "at least"
+abbrev pub flag : Bool → ℕ
+flag false = 0
+flag true = 1
+
+-- of a verdict; late is three numbers, the second by how much
 abbrev pub met : List ℕ
 met = 0 ∷ []
 
-abbrev pub late : List ℕ
-late = 1 ∷ []
+abbrev pub late : ℕ → Bool → List ℕ
+late by isExact = 1 ∷ by ∷ flag isExact ∷ []
 
 abbrev pub ended : List ℕ
 ended = 2 ∷ []
@@ -41,13 +48,16 @@ stillOpen = 3 ∷ []
 unfoldable pub verdictSaid : Verdict → List ℕ
 verdictSaid (verdicts.Refused number place) = refused number place
 verdictSaid verdicts.Met = met
-verdictSaid verdicts.Late = late
+verdictSaid (verdicts.Late by isExact) = late by isExact
 verdictSaid verdicts.Ended = ended
 verdictSaid verdicts.Open = stillOpen
 
--- of a witness
-abbrev pub accepted : List ℕ
-accepted = 0 ∷ []
+-- of a witness; accepted against a late job it is three numbers, too
+abbrev pub acceptedLate : ℕ → Bool → List ℕ
+acceptedLate by isExact = 0 ∷ by ∷ flag isExact ∷ []
+
+abbrev pub acceptedEnded : List ℕ
+acceptedEnded = 2 ∷ []
 
 abbrev pub notMissed : List ℕ
 notMissed = 1 ∷ []
@@ -56,7 +66,8 @@ unfoldable pub witnessSaid : Witness → List ℕ
 witnessSaid (witnesses.Refused number place) = refused number place
 witnessSaid (witnesses.NotLegal t) = notLegal t
 witnessSaid witnesses.NotMissed = notMissed
-witnessSaid witnesses.Accepted = accepted
+witnessSaid (witnesses.AcceptedLate by isExact) = acceptedLate by isExact
+witnessSaid witnesses.AcceptedEnded = acceptedEnded
 
 -- The standings inside the records that runs, steps and fresh records answer: a kind and, where there is one, the instant or tick.
 abbrev pub notArrived : List ℕ

@@ -1,6 +1,7 @@
 -- Document 01, "Traced schedules": the cases marked P, case 11, and one of ours, as one table. What a case says is set beside what the
 -- entry points answer.
 use Prim.Native.Nat.{ℕ}
+use mathlib.Core.Bool.{true, false}
 use mathlib.Core.List.{List, [], _∷_, _++_, map}
 use lib.ListN.{replicate}
 use Rattle.bits.specs.Below.{listFrom}
@@ -127,9 +128,9 @@ table =
     onFig1 S (listA 5) 16 (0 ∷ 0 ∷ 0 ∷ 0 ∷ 1 ∷ 1 ∷ 1 ∷ 1 ∷ 2 ∷ 2 ∷ 1 ∷ 2 ∷ 2 ∷ idle ∷ idle ∷ idle ∷ [])
     (Finished 4 ∷ Finished 11 ∷ Finished 13 ∷ []) (Met ∷ Met ∷ Met ∷ [])
     ∷ onFig1 S (listA 10) 18 (0 ∷ 0 ∷ 0 ∷ 0 ∷ 1 ∷ 1 ∷ 1 ∷ 1 ∷ 2 ∷ 2 ∷ 1 ∷ 1 ∷ 1 ∷ 1 ∷ 1 ∷ 1 ∷ 2 ∷ 2 ∷ [])
-    (Finished 4 ∷ Finished 16 ∷ Finished 18 ∷ []) (Met ∷ Met ∷ Late ∷ [])
+    (Finished 4 ∷ Finished 16 ∷ Finished 18 ∷ []) (Met ∷ Met ∷ Late 2 true ∷ [])
     ∷ onFig1 S (listA 10) 16 (0 ∷ 0 ∷ 0 ∷ 0 ∷ 1 ∷ 1 ∷ 1 ∷ 1 ∷ 2 ∷ 2 ∷ 1 ∷ 1 ∷ 1 ∷ 1 ∷ 1 ∷ 1 ∷ [])
-    (Finished 4 ∷ Finished 16 ∷ Unfinished ∷ []) (Met ∷ Met ∷ Late ∷ [])
+    (Finished 4 ∷ Finished 16 ∷ Unfinished ∷ []) (Met ∷ Met ∷ Late 0 false ∷ [])
     ∷ onFig1 S (listA 10) 15 (0 ∷ 0 ∷ 0 ∷ 0 ∷ 1 ∷ 1 ∷ 1 ∷ 1 ∷ 2 ∷ 2 ∷ 1 ∷ 1 ∷ 1 ∷ 1 ∷ 1 ∷ [])
     (Finished 4 ∷ Unfinished ∷ Unfinished ∷ []) (Met ∷ Open ∷ Open ∷ [])
     ∷ onFig1 SE (listA 10) 18 (0 ∷ 0 ∷ 0 ∷ 0 ∷ 1 ∷ 1 ∷ 1 ∷ 1 ∷ 2 ∷ 2 ∷ 1 ∷ 1 ∷ 1 ∷ 1 ∷ 1 ∷ 1 ∷ idle ∷ idle ∷ [])

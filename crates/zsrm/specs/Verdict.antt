@@ -19,10 +19,12 @@ use Rattle.zsrm.specs.declared.answers.Verdict.the-variants as verdicts
 use Rattle.zsrm.specs.declared.answers.Witness.the-variants as witnesses
 
 -- Ended; met if finished at f ≤ arrival + D; late if finished later, or alive with H ≥ arrival + D; open otherwise. due is arrival + D.
+-- Late carries a number and whether it is exact: finishing instant minus arrival minus D where the job finished, H minus arrival minus D,
+-- as "at least", where it is alive.
 abbrev pub judged : ℕ → ℕ → Standing → Verdict
 judged due h (Ended e) = verdicts.Ended
-judged due h (Finished f) = cond (leb f due) verdicts.Met verdicts.Late
-judged due h Unfinished = cond (leb due h) verdicts.Late verdicts.Open
+judged due h (Finished f) = cond (leb f due) verdicts.Met (verdicts.Late (f - due) true)
+judged due h Unfinished = cond (leb due h) (verdicts.Late (h - due) false) verdicts.Open
 judged due h NotArrived = verdicts.Open
 
 -- The verdict on job j from a record, H being its own tick.
@@ -33,15 +35,22 @@ verdict l r j = judged (deadlineInstant l j) (r .tick) (standingAt r j)
 abbrev pub missed : Verdict → Bool
 missed (verdicts.Refused number place) = false
 missed verdicts.Met = false
-missed verdicts.Late = true
+missed (verdicts.Late by isExact) = true
 missed verdicts.Ended = true
 missed verdicts.Open = false
 
+-- Against a job that missed a witness is accepted, and for a late job carries by how much and whether that is exact.
+abbrev pub blamed : Verdict → Witness
+blamed (verdicts.Refused number place) = witnesses.NotMissed
+blamed verdicts.Met = witnesses.NotMissed
+blamed (verdicts.Late by isExact) = witnesses.AcceptedLate by isExact
+blamed verdicts.Ended = witnesses.AcceptedEnded
+blamed verdicts.Open = witnesses.NotMissed
+
 -- The answers to a witness, in order: not legal at t; not missed; accepted. n is the length of the schedule's legal beginning.
-abbrev pub answered : Bool → ℕ → Bool → Witness
-answered false n isMissed = witnesses.NotLegal n
-answered true n false = witnesses.NotMissed
-answered true n true = witnesses.Accepted
+abbrev pub answered : Bool → ℕ → Verdict → Witness
+answered false n v = witnesses.NotLegal n
+answered true n v = blamed v
 
 -- A part of a schedule: the tick at which it begins, and its entries.
 pub record Part : Type 0 where
@@ -73,7 +82,7 @@ pub record Shows (schedule : ℕ × ℕ) (p : Part) (place : ℕ × ℕ) (entrie
 module _ (g : Given) (schedule : List ℕ) where
   -- A witness is a claim with a job number.
   unfoldable pub witness : ℕ → Witness
-  witness j = answered (isLegal g schedule) (legalLength g schedule) (missed (verdict (g .lists) (replayed g schedule) j))
+  witness j = answered (isLegal g schedule) (legalLength g schedule) (verdict (g .lists) (replayed g schedule) j)
 
   unfoldable pub part : ℕ → Part
   part j = shownBy (isLegal g schedule) (partTo (arrival (g .lists .jobs) j) schedule (standingAt (replayed g schedule) j))

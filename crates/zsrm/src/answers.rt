@@ -51,9 +51,20 @@ pub enum Claim {
 pub enum Verdict {
     Refused(u32, u32),
     Met,
-    Late,
+    // by how many ticks, and whether that is exact: else it is at least that
+    Late(u32, bool),
     Ended,
     Open,
+}
+
+// One of all verdicts.
+pub struct Judged {
+    pub verdict: Verdict,
+}
+
+// The verdicts on all jobs, by their numbers; a number that is no job's is refused.
+pub struct Verdicts {
+    pub of: [Judged; 64],
 }
 
 // The answer to a miss witness.
@@ -61,5 +72,7 @@ pub enum Witness {
     Refused(u32, u32),
     NotLegal(u32),
     NotMissed,
-    Accepted,
+    // by how many ticks the job is late, and whether that is exact
+    AcceptedLate(u32, bool),
+    AcceptedEnded,
 }

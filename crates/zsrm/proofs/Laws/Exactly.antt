@@ -1,8 +1,8 @@
 -- Answers in numbers, exactly: equal numbers are equal answers, and an answer is a refusal exactly where a check refuses.
 use lib.ListN.{length}
-use Prim.Native.Nat.{_<_, ℕ, _≤_}
+use Prim.Native.Nat.{_+_, _<_, ℕ, _≤_}
 use mathlib.Core.List.{List}
-use mathlib.Core.Logic.{Iff·trans, inl, inr, _↔_, _⊎_, ⊎-elim}
+use mathlib.Core.Logic.{Iff·trans, _↔_}
 use mathlib.Core.Path.{ap, refl, sym, _∙_, _≡_}
 use native.Mathlib.Omega.{arith}
 use Rattle.zsrm.specs.declared.answers.Stepped.{Stepped}
@@ -25,7 +25,9 @@ use Rattle.zsrm.proofs.Laws.Said.{claim-said, verdict-said, witness-sai
 use Rattle.zsrm.proofs.Readings.{LeastIllegal, LegalAt, claim-legal, claim-not-legal, claim-not-refused, verdict-reads, witness-reads, Judged, alive-reads}
 use Rattle.tables.proofs.Laws.Refusals.{unless-refused, unless-done}
 use Rattle.tables.specs.Tables.{arrival, deadlineInstant, lists}
-use Rattle.zsrm.specs.Run.{replayed}
+use Rattle.zsrm.specs.Run.{replay, replayed}
+use Rattle.zsrm.proofs.Laws.Replay.{tick-replay}
+use Rattle.zsrm.proofs.Laws.Verdicts.{finishes-later, verdict-named}
 use Rattle.tables.proofs.Laws.Said.{outcome-said}
 use Rattle.zsrm.specs.declared.answers.Claim.the-variants as claims
 use Rattle.zsrm.specs.declared.answers.Verdict.the-variants as verdicts
@@ -171,16 +173,43 @@ module _ (g : Given) (r : Record) (j : ℕ) where
         λ w. let v = w .1 in (w .0, (v .0, stands (standings.Ended (v .0)) .1 (v .1))),
       )
 
-  pub late-exactly : verdictSaid (verdictAnswer g r j) ≡ say.late
-      ↔ (outcomeSaid (checkVerdict g r j) ≡ outcome.done)
-      × (((f : ℕ) × (standingSaid (standingAt r j) ≡ say.finishedAt f) × (deadlineInstant (g .lists) j < f))
-      ⊎ ((standingSaid (standingAt r j) ≡ say.unfinished) × (deadlineInstant (g .lists) j ≤ r .tick)))
+  pub late-exactly : (n : ℕ) → verdictSaid (verdictAnswer g r j) ≡ say.late n true
+      ↔ (outcomeSaid (checkVerdict g r j) ≡ outcome.done) × (standingSaid (standingAt r j) ≡ say.finishedAt (deadlineInstant (g .lists) j + n)) × (0 < n)
   unfolding verdictSaid standingSaid
-  late-exactly =
-      Iff·trans (judged-exactly g r j verdicts.Late (λ n p e. let z : _≡_ {A = ℕ} 0 1 = cc in omega arith)) (
-        λ w. (w .0, ⊎-elim (λ v. inl (v .0, stands (standings.Finished (v .0)) .0 (v .1), v .2)) (λ v. inr (stands standings.Unfinished .0 (alive-reads r j .0 (v .0)), v .1)) (w .1)),
-        λ w. (w .0, ⊎-elim (λ v. inl (v .0, stands (standings.Finished (v .0)) .1 (v .1), v .2)) (λ v. inr (alive-reads r j .1 (stands standings.Unfinished .1 (v .0)), v .1)) (w .1)),
+  late-exactly n =
+      Iff·trans (judged-exactly g r j (verdicts.Late n true) (λ n p e. let z : _≡_ {A = ℕ} 0 1 = cc in omega arith)) (
+        λ w. (w .0, stands (standings.Finished (deadlineInstant (g .lists) j + n)) .0 (w .1 .0), w .1 .1),
+        λ w. (w .0, (stands (standings.Finished (deadlineInstant (g .lists) j + n)) .1 (w .1), w .2)),
       )
+
+  pub late-at-least : (n : ℕ) → verdictSaid (verdictAnswer g r j) ≡ say.late n false
+      ↔ (outcomeSaid (checkVerdict g r j) ≡ outcome.done) × (standingSaid (standingAt r j) ≡ say.unfinished) × (r .tick ≡ deadlineInstant (g .lists) j + n)
+  unfolding verdictSaid standingSaid
+  late-at-least n =
+      Iff·trans (judged-exactly g r j (verdicts.Late n false) (λ n p e. let z : _≡_ {A = ℕ} 0 1 = cc in omega arith)) (
+        λ w. (w .0, stands standings.Unfinished .0 (alive-reads r j .0 (w .1 .0)), w .1 .1),
+        λ w. (w .0, (alive-reads r j .1 (stands standings.Unfinished .1 (w .1)), w .2)),
+      )
+
+  module _ (n : ℕ) (entries : List ℕ) (says : verdictSaid (verdictAnswer g r j) ≡ say.late n false) where
+    pub late-finishes : (f : ℕ) → standingSaid (standingAt (replay g r entries) j) ≡ say.finishedAt f → deadlineInstant (g .lists) j + n < f
+    unfolding standingSaid outcomeSaid
+    late-finishes f at =
+        let now = late-at-least n .0 says in
+        let w = verdict-named g r j (outcome-said (checkVerdict g r j) Done (now .0)) in
+        let l : j < 64 = omega (arith, w .job, w .few) in
+        let later = finishes-later g j l entries r f (alive-reads r j .1 (stands standings.Unfinished .1 (now .1)))
+        (standing-said (standingAt (replay g r entries) j) (standings.Finished f) at) in
+        omega (arith, now .2)
+
+    pub late-grows : (m : ℕ) (isExact : Bool) → verdictSaid (verdictAnswer g (replay g r entries) j) ≡ say.late m isExact → n ≤ m
+    unfolding standingSaid verdictSaid
+    late-grows m true h =
+        let w = judged-exactly g (replay g r entries) j (verdicts.Late m true) (λ n p e. let z : _≡_ {A = ℕ} 0 1 = cc in omega arith) .0 h in
+        omega (arith, late-finishes (deadlineInstant (g .lists) j + m) (ap standingSaid (w .1 .0)))
+    late-grows m false h =
+        let w = judged-exactly g (replay g r entries) j (verdicts.Late m false) (λ n p e. let z : _≡_ {A = ℕ} 0 1 = cc in omega arith) .0 h in
+        omega (arith, late-at-least n .0 says .2, w .1 .1, tick-replay g r entries)
 
 -- the empty part: of an illegal claim, and of a job without a finishing instant
 module _ (g : Given) (horizon : ℕ) (schedule : List ℕ) (j : ℕ) where

@@ -1,8 +1,8 @@
 -- What the promises on runs, witnesses and shown parts are proved from, and a table that meets promise (ii)'s premise.
 use Prim.Native.Nat.{_+_, _-_, _<_, suc, zero, ℕ, _≤_}
-use mathlib.Core.Bool.{true}
+use mathlib.Core.Bool.{Bool, true}
 use mathlib.Core.List.{List, [], _∷_}
-use mathlib.Core.Logic.{inl, inr, _⊎_, ⊎-elim}
+use mathlib.Core.Logic.{_↔_}
 use mathlib.Core.Path.{ap, refl, subst, sym, _∙_, _≡_}
 use native.Mathlib.Nat.{not-suc-le-zero}
 use native.Mathlib.Numerals.{add-one}
@@ -12,6 +12,8 @@ use lib.Seq.{getD-drop, getD-take, length-take-le}
 use borrow.Author.Tests.{eq-eqb, leb-true, lt-ltb, ltb-true, ne-eqb}
 use Rattle.tables.specs.declared.outcome.Outcome.the-variants.{Done, Refused}
 use Rattle.zsrm.specs.declared.answers.Stepped.{Stepped}
+use Rattle.zsrm.specs.declared.answers.Verdict.{Verdict}
+use Rattle.zsrm.specs.declared.answers.Witness.{Witness}
 use Rattle.zsrm.specs.declared.record.Record.{Record}
 use Rattle.zsrm.specs.declared.record.Standing.the-variants.{Finished}
 use Rattle.zsrm.specs.Answers.{checkSchedule, checkStep, checkWitness, claimAnswer, freshAnswer, ran, responseAnswer, runAnswer, runSchedule, stepAnswer, stepped, stepsFrom, verdictAnswer, witnessAnswer}
@@ -35,7 +37,7 @@ use Rattle.zsrm.proofs.Laws.Places.{tick-fresh}
 use Rattle.tables.proofs.Laws.Refusals.{before-first, unless-done, unless-refused}
 use Rattle.zsrm.proofs.Laws.Said.{verdict-said, witness-said}
 use Rattle.zsrm.proofs.Laws.Verdicts.{part-fits, replayed-consistent, witnessed}
-use Rattle.zsrm.proofs.Readings.{missed-reads, witness-reads}
+use Rattle.zsrm.proofs.Readings.{witness-reads}
 use Rattle.zsrm.proofs.Laws.Run.{choice-may}
 use Rattle.tables.proofs.Laws.Accepted.{lists-few}
 use Rattle.tables.proofs.Laws.Said.{outcome-said}
@@ -173,39 +175,53 @@ module _ (g : Given) (horizon : ℕ) (schedule : List ℕ) (legal : claimSaid (c
         rw (shown f q) (getD-take (f - arrival (g .lists .jobs) j) (drop (arrival (g .lists .jobs) j) schedule) i idle (omega arith)
         ∙ getD-drop (arrival (g .lists .jobs) j) schedule i idle)
 
--- an accepted witness
+-- a witness is accepted against a job exactly where its schedule is legal and the job has that verdict in it; w is what is answered for v
 module _ (g : Given) (horizon : ℕ) (schedule : List ℕ) (j : ℕ) where
-  -- a job is late or ended, in the verdict's numbers
-  abbrev pub Missed : Type 0
-  Missed = (verdictSaid (verdictAnswer g (replayed g schedule) j) ≡ say.late) ⊎ (verdictSaid (verdictAnswer g (replayed g schedule) j) ≡ say.ended)
-
   within : checkWitness (g .lists) horizon (length schedule) j ≡ Done → checkSchedule (g .lists) horizon (length schedule) ≡ Done
   unfolding checkWitness
   within ok = before-first (checkSchedule (g .lists) horizon (length schedule)) (check13 (g .lists .jobs) j) ok
 
-  pub accepted-says : witnessSaid (witnessAnswer g horizon schedule j) ≡ say.accepted
-      → (claimSaid (claimAnswer g horizon schedule) ≡ say.legal) × (j < jobCount (g .lists .jobs)) × Missed
-  unfolding witnessSaid witnessAnswer claimSaid claimAnswer verdictSaid
-  accepted-says h =
-      let w = answered witnesses.Refused (witness g schedule j) witnesses.Accepted (λ n p e. let z : _≡_ {A = ℕ} 0 1 = cc in omega arith)
-      (checkWitness (g .lists) horizon (length schedule) j) .0 (witness-said (witnessAnswer g horizon schedule j) witnesses.Accepted h) in
-      let v = witnessed (g .lists) horizon (length schedule) j (w .0) in
-      let l : j < jobCount (g .lists .jobs) = v .named .job in
-      let a = witness-reads g schedule j witnesses.Accepted .0 (w .1) in
-      let legal : claimSaid (claimAnswer g horizon schedule) ≡ say.legal =
-      ap claimSaid (unless-done claims.Refused (claim g schedule) (checkSchedule (g .lists) horizon (length schedule)) (within (w .0)) ∙ a .0) in
-      let same = taken g horizon schedule legal j l in
-      (legal, l, ⊎-elim (λ e. inl (ap verdictSaid (same ∙ e))) (λ e. inr (ap verdictSaid (same ∙ e))) (missed-reads (verdict (g .lists) (replayed g schedule) j) .0 (a .1)))
+  Blames : Witness → Verdict → Type 0
+  Blames w v = witness g schedule j ≡ w ↔ (claim g schedule ≡ claims.Legal) × (verdict (g .lists) (replayed g schedule) j ≡ v)
 
-  pub missed-accepted : claimSaid (claimAnswer g horizon schedule) ≡ say.legal → j < jobCount (g .lists .jobs) → Missed → witnessSaid (witnessAnswer g horizon schedule j) ≡ say.accepted
-  unfolding witnessSaid verdictSaid
-  missed-accepted legal l m =
-      ap witnessSaid (witness-taken g horizon schedule legal j l ∙ witness-reads g schedule j witnesses.Accepted .1 (
-        whole-legal g schedule .1 (is-legal g horizon schedule legal .legal),
-        missed-reads (verdict (g .lists) (replayed g schedule) j) .1 (⊎-elim
-            (λ e. inl (sym (taken g horizon schedule legal j l) ∙ verdict-said (verdictAnswer g (replayed g schedule) j) verdicts.Late e))
-            (λ e. inr (sym (taken g horizon schedule legal j l) ∙ verdict-said (verdictAnswer g (replayed g schedule) j) verdicts.Ended e)) m),
-      ))
+  accepted-exactly : (w : Witness) (v : Verdict) → ((number place : ℕ) → witnesses.Refused number place ≡ w → ⊥) → Blames w v
+      → witnessSaid (witnessAnswer g horizon schedule j) ≡ witnessSaid w
+      ↔ (claimSaid (claimAnswer g horizon schedule) ≡ say.legal) × (j < jobCount (g .lists .jobs)) × (verdictSaid (verdictAnswer g (replayed g schedule) j) ≡ verdictSaid v)
+  unfolding Blames witnessSaid witnessAnswer claimSaid claimAnswer verdictSaid
+  accepted-exactly w v never blames = (there, back)
+    where
+      there : witnessSaid (witnessAnswer g horizon schedule j) ≡ witnessSaid w
+          → (claimSaid (claimAnswer g horizon schedule) ≡ say.legal) × (j < jobCount (g .lists .jobs)) × (verdictSaid (verdictAnswer g (replayed g schedule) j) ≡ verdictSaid v)
+      there h =
+          let x = answered witnesses.Refused (witness g schedule j) w never (checkWitness (g .lists) horizon (length schedule) j) .0
+          (witness-said (witnessAnswer g horizon schedule j) w h) in
+          let l : j < jobCount (g .lists .jobs) = witnessed (g .lists) horizon (length schedule) j (x .0) .named .job in
+          let a = blames .0 (x .1) in
+          let legal : claimSaid (claimAnswer g horizon schedule) ≡ say.legal =
+          ap claimSaid (unless-done claims.Refused (claim g schedule) (checkSchedule (g .lists) horizon (length schedule)) (within (x .0)) ∙ a .0) in
+          (legal, l, ap verdictSaid (taken g horizon schedule legal j l ∙ a .1))
+
+      back : (claimSaid (claimAnswer g horizon schedule) ≡ say.legal) × (j < jobCount (g .lists .jobs)) × (verdictSaid (verdictAnswer g (replayed g schedule) j) ≡ verdictSaid v)
+          → witnessSaid (witnessAnswer g horizon schedule j) ≡ witnessSaid w
+      back m =
+          ap witnessSaid (witness-taken g horizon schedule (m .0) j (m .1) ∙ blames .1 (
+            whole-legal g schedule .1 (is-legal g horizon schedule (m .0) .legal),
+            sym (taken g horizon schedule (m .0) j (m .1)) ∙ verdict-said (verdictAnswer g (replayed g schedule) j) v (m .2),
+          ))
+
+  pub late-accepted : (n : ℕ) (isExact : Bool) → witnessSaid (witnessAnswer g horizon schedule j) ≡ say.acceptedLate n isExact
+      ↔ (claimSaid (claimAnswer g horizon schedule) ≡ say.legal) × (j < jobCount (g .lists .jobs)) × (verdictSaid (verdictAnswer g (replayed g schedule) j) ≡ say.late n isExact)
+  unfolding Blames witnessSaid verdictSaid
+  late-accepted n isExact =
+      accepted-exactly (witnesses.AcceptedLate n isExact) (verdicts.Late n isExact) (λ n p e. let z : _≡_ {A = ℕ} 0 1 = cc in omega arith)
+      (witness-reads g schedule j (witnesses.AcceptedLate n isExact))
+
+  pub ended-accepted : witnessSaid (witnessAnswer g horizon schedule j) ≡ say.acceptedEnded
+      ↔ (claimSaid (claimAnswer g horizon schedule) ≡ say.legal) × (j < jobCount (g .lists .jobs)) × (verdictSaid (verdictAnswer g (replayed g schedule) j) ≡ say.ended)
+  unfolding Blames witnessSaid verdictSaid
+  ended-accepted =
+      accepted-exactly witnesses.AcceptedEnded verdicts.Ended (λ n p e. let z : _≡_ {A = ℕ} 0 1 = cc in omega arith)
+      (witness-reads g schedule j witnesses.AcceptedEnded)
 
 -- three tasks, of which task 0 is topmost: its offset 12 plus its overload time 8 is within its deadline 20
 abbrev pub threeTasks : List ℕ

@@ -1,6 +1,6 @@
 -- Equal numbers are equal answers: each enum's answers are read back from their numbers.
 use Prim.Native.Nat.{_+_, _-_, ℕ}
-use mathlib.Core.Bool.{cond}
+use mathlib.Core.Bool.{Bool, cond, false, true}
 use mathlib.Core.List.{List, [], _∷_}
 use mathlib.Core.Path.{ap, refl, sym, _∙_, _≡_}
 use native.Mathlib.Omega.{arith}
@@ -10,19 +10,19 @@ use Rattle.zsrm.specs.declared.answers.Claim.{Claim}
 use Rattle.zsrm.specs.declared.answers.Verdict.{Verdict}
 use Rattle.zsrm.specs.declared.answers.Witness.{Witness}
 use Rattle.zsrm.specs.declared.record.Standing.{Standing}
-use Rattle.zsrm.specs.Said.{claimSaid, standingSaid, verdictSaid, witnessSaid}
-use Rattle.tables.specs.declared.outcome.Outcome.the-variants as outcomes
+use Rattle.zsrm.specs.Said.{claimSaid, finishedAt, standingSaid, verdictSaid, witnessSaid}
 use Rattle.zsrm.specs.declared.answers.Claim.the-variants as claims
 use Rattle.zsrm.specs.declared.answers.Verdict.the-variants as verdicts
 use Rattle.zsrm.specs.declared.answers.Witness.the-variants as witnesses
 use Rattle.zsrm.specs.declared.record.Standing.the-variants as standings
 
--- two numbers are a refusal; one number is read by its own table
-module _ {A : Type 0} (refused : ℕ → ℕ → A) (one : ℕ → A) where
+-- two numbers are a refusal; one number is read by its own table, and so are three, which say by how much a job is late
+module _ {A : Type 0} (refused : ℕ → ℕ → A) (one : ℕ → A) (late : ℕ → Bool → A) where
   back : List ℕ → A
   back [] = one 0
   back (x ∷ []) = one x
-  back (n ∷ p ∷ rest) = refused n p
+  back (n ∷ p ∷ []) = refused n p
+  back (x ∷ by ∷ isExact ∷ rest) = late by (eqb isExact 1)
 
 -- what can be read back is told apart
 told : {A : Type 0} (said : A → List ℕ) (read : List ℕ → A) → ((a : A) → read (said a) ≡ a) → (a b : A) → said a ≡ said b → a ≡ b
@@ -36,7 +36,7 @@ unfolding notLegalOr
 not-legal-back notLegal small t = rw (le-ltb (65536 + t) 65536 (omega arith)) (ap notLegal (omega arith))
 
 claimOf : List ℕ → Claim
-claimOf = back claims.Refused (notLegalOr claims.NotLegal (λ x. claims.Legal))
+claimOf = back claims.Refused (notLegalOr claims.NotLegal (λ x. claims.Legal)) (λ by isExact. claims.Legal)
 
 pub claim-said : (a b : Claim) → claimSaid a ≡ claimSaid b → a ≡ b
 unfolding claimSaid claimOf back notLegalOr
@@ -48,7 +48,7 @@ claim-said = told claimSaid claimOf again
     again (claims.NotLegal t) = not-legal-back claims.NotLegal (λ x. claims.Legal) t
 
 verdictOf : List ℕ → Verdict
-verdictOf = back verdicts.Refused (λ x. cond (eqb x 0) verdicts.Met (cond (eqb x 1) verdicts.Late (cond (eqb x 2) verdicts.Ended verdicts.Open)))
+verdictOf = back verdicts.Refused (λ x. cond (eqb x 0) verdicts.Met (cond (eqb x 2) verdicts.Ended verdicts.Open)) verdicts.Late
 
 pub verdict-said : (a b : Verdict) → verdictSaid a ≡ verdictSaid b → a ≡ b
 unfolding verdictSaid verdictOf back
@@ -57,12 +57,13 @@ verdict-said = told verdictSaid verdictOf again
     again : (a : Verdict) → verdictOf (verdictSaid a) ≡ a
     again (verdicts.Refused n p) = refl
     again verdicts.Met = refl
-    again verdicts.Late = refl
+    again (verdicts.Late by true) = refl
+    again (verdicts.Late by false) = refl
     again verdicts.Ended = refl
     again verdicts.Open = refl
 
 witnessOf : List ℕ → Witness
-witnessOf = back witnesses.Refused (notLegalOr witnesses.NotLegal (λ x. cond (eqb x 0) witnesses.Accepted witnesses.NotMissed))
+witnessOf = back witnesses.Refused (notLegalOr witnesses.NotLegal (λ x. cond (eqb x 1) witnesses.NotMissed witnesses.AcceptedEnded)) witnesses.AcceptedLate
 
 pub witness-said : (a b : Witness) → witnessSaid a ≡ witnessSaid b → a ≡ b
 unfolding witnessSaid witnessOf back notLegalOr
@@ -70,9 +71,11 @@ witness-said = told witnessSaid witnessOf again
   where
     again : (a : Witness) → witnessOf (witnessSaid a) ≡ a
     again (witnesses.Refused n p) = refl
-    again (witnesses.NotLegal t) = not-legal-back witnesses.NotLegal (λ x. cond (eqb x 0) witnesses.Accepted witnesses.NotMissed) t
+    again (witnesses.NotLegal t) = not-legal-back witnesses.NotLegal (λ x. cond (eqb x 1) witnesses.NotMissed witnesses.AcceptedEnded) t
     again witnesses.NotMissed = refl
-    again witnesses.Accepted = refl
+    again (witnesses.AcceptedLate by true) = refl
+    again (witnesses.AcceptedLate by false) = refl
+    again witnesses.AcceptedEnded = refl
 
 standingOf : List ℕ → Standing
 standingOf (x ∷ y ∷ []) = cond (eqb x 2) (standings.Finished y) (standings.Ended y)
@@ -89,3 +92,7 @@ standing-said = told standingSaid standingOf again
     again standings.Unfinished = refl
     again (standings.Finished f) = refl
     again (standings.Ended e) = refl
+
+-- two finishing instants in numbers
+pub finish-told : {f h : ℕ} → finishedAt f ≡ finishedAt h → f ≡ h
+finish-told e = cc

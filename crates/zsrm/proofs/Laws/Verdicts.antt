@@ -1,34 +1,44 @@
--- Verdicts and witnesses as the code comes to them: what the checks say of the job named, and what a replay says of a witness.
-use Prim.Native.Nat.{_+_, _<_, ℕ, _≤_}
+-- Verdicts and witnesses as the code comes to them: what the checks say of the job named, what a replay says of a witness, all verdicts at
+-- once; and when a job that is alive finishes.
+use Prim.Native.Nat.{_+_, _<_, suc, ℕ, _≤_}
 use mathlib.Core.Bool.{Bool, false, true}
-use mathlib.Core.List.{List}
-use mathlib.Core.Path.{ap, refl, subst, _∙_, _≡_}
+use mathlib.Core.List.{List, [], _∷_}
+use mathlib.Core.Path.{ap, ap₂, refl, subst, sym, _∙_, _≡_}
 use native.Mathlib.Omega.{arith}
 use lib.Dec.{ltb, eqb}
 use lib.ListN.{length}
 use borrow.Author.Tests.{eqb-true, ltb-true, not-false}
-use Rattle.tables.specs.declared.outcome.Outcome.the-variants.{Done}
+use Rattle.bits.proofs.Arrays.{Written, written-all}
+use Rattle.bits.proofs.Below.{list-same}
+use Rattle.tables.specs.declared.outcome.Outcome.{Outcome}
+use Rattle.tables.specs.declared.outcome.Outcome.the-variants.{Done, Refused}
+use Rattle.zsrm.specs.declared.answers.Judged.{Judged}
 use Rattle.zsrm.specs.declared.answers.Verdict.{Verdict}
+use Rattle.zsrm.specs.declared.answers.Verdicts.{Verdicts}
 use Rattle.zsrm.specs.declared.answers.Witness.{Witness}
 use Rattle.zsrm.specs.declared.claims.Replayed.{Replayed}
 use Rattle.zsrm.specs.declared.record.Record.{Record}
 use Rattle.zsrm.specs.declared.record.Standing.{Standing}
 use Rattle.zsrm.specs.declared.record.Standing.the-variants.{Ended, Finished, NotArrived, Unfinished}
-use Rattle.zsrm.specs.Answers.{checkSchedule, checkVerdict, checkWitness}
+use Rattle.zsrm.specs.Answers.{checkSchedule, checkVerdict, checkWitness, judgedAt, verdictAnswer, verdictsAnswer}
 use Rattle.zsrm.specs.Given.{Given}
 use Rattle.zsrm.specs.Code.Claims.{FitsIn, ReplayedAs}
 use Rattle.tables.specs.Tables.{arrival, idle, jobCount, Lists}
 use Rattle.zsrm.specs.Record.{consistent, doneAt, fresh, standingAt, check11}
-use Rattle.tables.specs.Refusals.{check13, checkLists}
-use Rattle.zsrm.specs.Run.{replayed, recordBefore}
-use Rattle.zsrm.specs.Verdict.{answered, missed, part, partTo, shownBy, verdict, witness}
+use Rattle.tables.specs.Refusals.{before, check13, checkLists, unless}
+use Rattle.zsrm.specs.Run.{replay, replayed, recordBefore}
+use Rattle.zsrm.specs.Tick.{advanced, alive, standingAfter, unfinished}
+use Rattle.zsrm.specs.Verdict.{answered, part, partTo, shownBy, verdict, witness}
 use Rattle.zsrm.proofs.Laws.Answers.{Accepted, accepted}
 use Rattle.zsrm.proofs.Laws.Consistent.{Sound, advanced-consistent, fresh-consistent, sound-at}
-use Rattle.zsrm.proofs.Laws.Places.{tick-fresh}
+use Rattle.bits.proofs.Bools.{clash}
+use Rattle.zsrm.proofs.Laws.Places.{standing-advanced, standing-alive, tick-advanced, tick-fresh}
+use Rattle.zsrm.proofs.Laws.Tick.{goes-on}
 use Rattle.tables.proofs.Laws.Refusals.{before-first, before-second, refuse-fine}
 use Rattle.zsrm.proofs.Laws.Replay.{kept-at, legal-may, replayed-is, tick-replay, AllLegal}
 use Rattle.tables.proofs.Laws.Accepted.{lists-few}
 use Rattle.zsrm.specs.Legal.{isLegal, legalLength}
+use Rattle.zsrm.specs.declared.answers.Verdict.the-variants as verdicts
 
 -- a job that the list has
 pub record Named (l : Lists) (j : ℕ) : Type 0 where
@@ -68,20 +78,20 @@ witnessed l horizon entries j ok =
     }
 
 -- a replay answers the witness: where it is legal its record is the one replayed, and elsewhere the verdict does not matter
-pub witness-answer : (g : Given) (schedule : List ℕ) (j : ℕ) (x : Replayed) (v : Verdict) (b : Bool) (w : Witness)
-    → ReplayedAs g schedule x → v ≡ verdict (g .lists) (x .«record») j → b ≡ missed v → w ≡ answered (eqb (x .ticks) (length schedule)) (x .ticks) b
+pub witness-answer : (g : Given) (schedule : List ℕ) (j : ℕ) (x : Replayed) (v : Verdict) (w : Witness)
+    → ReplayedAs g schedule x → v ≡ verdict (g .lists) (x .«record») j → w ≡ answered (eqb (x .ticks) (length schedule)) (x .ticks) v
     → w ≡ witness g schedule j
 unfolding witness isLegal
-witness-answer g schedule j x v b w p qv qb qw =
-    qw ∙ ap (λ (n : ℕ). answered (eqb n (length schedule)) n b) (p .ticks) ∙ go (eqb (legalLength g schedule) (length schedule)) refl
+witness-answer g schedule j x v w p qv qw =
+    qw ∙ ap (λ (n : ℕ). answered (eqb n (length schedule)) n v) (p .ticks) ∙ go (eqb (legalLength g schedule) (length schedule)) refl
   where
     n : ℕ
     n = legalLength g schedule
 
-    go : (k : Bool) → eqb n (length schedule) ≡ k → answered k n b ≡ answered k n (missed (verdict (g .lists) (replayed g schedule) j))
+    go : (k : Bool) → eqb n (length schedule) ≡ k → answered k n v ≡ answered k n (verdict (g .lists) (replayed g schedule) j)
     go false e = refl
     go true e =
-        ap (answered true n) (qb ∙ ap missed (qv ∙ ap (λ (r : Record). verdict (g .lists) r j) (p .ends (eqb-true n (length schedule) e))))
+        ap (answered true n) (qv ∙ ap (λ (r : Record). verdict (g .lists) r j) (p .ends (eqb-true n (length schedule) e)))
 
 -- the record before each tick of a legal schedule, and the one at its end, is consistent
 pub legal-consistent : (g : Given) (schedule : List ℕ) → length schedule ≤ 16384 → AllLegal g (fresh (g .lists .jobs)) idle schedule → (t : ℕ) → consistent g (recordBefore g schedule t) ≡ true
@@ -121,3 +131,53 @@ part-answer g schedule j x p =
         → shownBy k (partTo (arrival (g .lists .jobs) j) schedule (standingAt (x .«record») j)) ≡ shownBy k (partTo (arrival (g .lists .jobs) j) schedule (standingAt (replayed g schedule) j))
     go false e = refl
     go true e = ap (λ (r : Record). partTo (arrival (g .lists .jobs) j) schedule (standingAt r j)) (p .ends (eqb-true (legalLength g schedule) (length schedule) e))
+
+-- all verdicts: what is checked once and what is checked of each job are the verdict's checks
+before-assoc : (a b c : Outcome) → before (before a b) c ≡ before a (before b c)
+unfolding before
+before-assoc Done b c = refl
+before-assoc (Refused number place) b c = refl
+
+abbrev pub judgedBy : Lists → Record → Outcome → ℕ → Judged
+judgedBy l r checked j = record { verdict = unless (before checked (check13 (l .jobs) j)) verdicts.Refused (verdict l r j) }
+
+pub judged-by : (l : Lists) (r : Record) (checked : Outcome) (j : ℕ) (v : Judged)
+    → v .verdict ≡ unless (before checked (check13 (l .jobs) j)) verdicts.Refused (verdict l r j) → v ≡ judgedBy l r checked j
+judged-by l r checked j v q = ap (λ (x : Verdict). let y : Judged = record { verdict = x } in y) q
+
+pub verdicts-made : (g : Given) (r : Record) (checked a b : Outcome) (d : Judged) (held : List Judged) (out : Verdicts) (j : ℕ) → checked ≡ before a b → a ≡ checkLists (g .lists)
+    → b ≡ check11 (consistent g r) → Written d (judgedBy (g .lists) r checked) held (out .of) 64 j → 64 ≤ j → out ≡ verdictsAnswer g r
+unfolding verdictsAnswer judgedAt verdictAnswer checkVerdict
+verdicts-made g r checked a b d held out j p pa pb w m =
+    ap (λ (l : List Judged). let y : Verdicts = record { of = l } in y)
+    (written-all d (judgedBy (g .lists) r checked) held (out .of) 64 j w (λ k x y. absurd (omega arith))
+    ∙ list-same 64 (judgedBy (g .lists) r checked) (judgedAt g r) (λ k x. ap (λ (v : Verdict). let y : Judged = record { verdict = v } in y) (same k)))
+  where
+    same : (k : ℕ) → unless (before checked (check13 (g .lists .jobs) k)) verdicts.Refused (verdict (g .lists) r k)
+        ≡ unless (before (checkLists (g .lists)) (before (check11 (consistent g r)) (check13 (g .lists .jobs) k))) verdicts.Refused (verdict (g .lists) r k)
+    same k =
+        ap (λ (o : Outcome). unless o verdicts.Refused (verdict (g .lists) r k))
+        (ap (λ (o : Outcome). before o (check13 (g .lists .jobs) k)) (p ∙ ap₂ before pa pb) ∙ before-assoc (checkLists (g .lists)) (check11 (consistent g r)) (check13 (g .lists .jobs) k))
+
+-- whatever entries follow: what is finished or ended stays so, and a job that is alive finishes later than the record's tick
+module _ (g : Given) (j : ℕ) (l : j < 64) where
+  stays : (s : Standing) → ((r : Record) (e : ℕ) → standingAfter g r e j s ≡ s) → (es : List ℕ) (r : Record) → standingAt r j ≡ s → standingAt (replay g r es) j ≡ s
+  unfolding replay
+  stays s fixed [] r q = q
+  stays s fixed (e ∷ es) r q = stays s fixed es (advanced g r e) (standing-advanced g r e j l ∙ ap (standingAfter g r e j) q ∙ fixed r e)
+
+  pub finishes-later : (es : List ℕ) (r : Record) (f : ℕ) → alive r j ≡ true → standingAt (replay g r es) j ≡ Finished f → r .tick < f
+  unfolding replay standingAfter alive
+  finishes-later [] r f a q = clash a (ap unfinished q)
+  finishes-later (e ∷ es) r f a q =
+      goes-on g r e (λ s. standingAt (advanced g r e) j ≡ s → r .tick < f) j
+      (λ _ _ now. let same : f ≡ suc (r .tick) = same-instant (sym q ∙ stays (Finished (suc (r .tick))) (λ x y. refl) es (advanced g r e) now) in omega arith)
+      (λ _ _ now. apart (sym q ∙ stays (Ended (r .tick)) (λ x y. refl) es (advanced g r e) now))
+      (λ _ _ now. let later = finishes-later es (advanced g r e) f (ap unfinished now) q in omega (arith, tick-advanced g r e))
+      (standing-alive g r e j l a)
+    where
+      same-instant : {x y : ℕ} → Finished x ≡ Finished y → x ≡ y
+      same-instant e = cc
+
+      apart : {x y : ℕ} {A : Type 0} → Finished x ≡ Ended y → A
+      apart e = let z : _≡_ {A = ℕ} 0 1 = cc in absurd (omega arith)

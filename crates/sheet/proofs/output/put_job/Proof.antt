@@ -1,4 +1,4 @@
--- The word, the number and the rest, one behind the other: 32 bytes at most.
+-- The word, the number and the rest, one behind the other: 45 bytes at most.
 use lib.Dec.{lit≤}
 use borrow.Author.Needs.{needs}
 use Rattle.sheet.proofs.Lines.{field-length, room-left, wrote-job}
@@ -7,8 +7,8 @@ use Rattle.sheet.proofs.output.put_job.Tie as tie
 
 put-verdict-requires : tie.Need-put-verdict-requires
 put-verdict-requires c κs =
-    room-left 11 17 28 (c .before .before .before .put-field .ensures) (field-length _ _)
-    (room-left 4 28 32 (c .before .before .before .before .before .before .before .put-text .ensures) (lit≤ tt) (c .before .before .before .before .before .before .before .before .before .before .before .pre) (lit≤ tt))
+    room-left 11 30 41 (c .before .before .before .put-field .ensures) (field-length _ _)
+    (room-left 4 41 45 (c .before .before .before .before .before .before .before .put-text .ensures) (lit≤ tt) (c .before .before .before .before .before .before .before .before .before .before .before .pre) (lit≤ tt))
     (lit≤ tt)
 
 returns : tie.Need-returns

@@ -1,73 +1,78 @@
--- The lines of the first j jobs are written; each has at most 32 bytes.
-use Prim.Native.Nat.{_-_, _/_, _≤_}
-use mathlib.Core.Path.{_≡_}
+-- The lines of the first j jobs are written; each has at most 45 bytes.
+use Prim.Native.Nat.{ℕ, _-_, _/_, _<_, _≤_}
+use mathlib.Core.Path.{refl, _≡_}
 use native.Mathlib.Omega.{arith}
-use lib.ListN.{length}
-use Rattle.tables.specs.Tables.{jobCount}
+use lib.ListN.{getD, length}
+use borrow.Author.Needs.{needs}
+use Rattle.tables.specs.Tables.{jobCount, lists}
+use Rattle.zsrm.specs.Record.{placeAt, standingAt}
+use Rattle.zsrm.specs.Verdict.{verdict}
+use Rattle.zsrm.specs.declared.answers.Judged.{Judged}
+use Rattle.zsrm.specs.declared.answers.Verdict.the-variants.{Refused}
 use Rattle.sheet.specs.Listing.{jobLines}
 use Rattle.sheet.specs.Wrote.{Wrote}
 use Rattle.sheet.proofs.Lines.{wrote-length, wrote-none}
-use Rattle.sheet.proofs.Runs.{few, jobs-length, wrote-jobs}
+use Rattle.sheet.proofs.Runs.{all-judged, few, jobs-length, wrote-jobs}
 use Rattle.sheet.proofs.output.put_jobs.Statement.{statement}
-use Rattle.zsrm.specs.Given.{given}
 use Rattle.sheet.proofs.output.put_jobs.Tie as tie
 
+-- what an array reads past its end
+abbrev none : Judged
+none = record { verdict = Refused 0 0 }
+
 abbrev Inv-loop : tie.InvT-loop
-Inv-loop out₀ at rec mode tasks jobs n j₀ k₀ out j k = (j ≤ jobCount jobs) × Wrote out₀ at (jobLines (given mode tasks jobs) rec j) out k
+Inv-loop out₀ at tasks jobs rec all n j₀ k₀ out j k =
+    (j ≤ jobCount jobs) × ((i : ℕ) → i < jobCount jobs → getD (all .of) i none .verdict ≡ verdict (lists tasks jobs) rec i)
+    × Wrote out₀ at (jobLines (lists tasks jobs) rec j) out k
 
 abbrev μ-loop : tie.MeasureT-loop
-μ-loop out₀ at rec mode tasks jobs n j₀ k₀ out j k = jobCount jobs - j
-
-cast-n : tie.Need-cast-n Inv-loop μ-loop
-unfolding jobCount
-cast-n c =
-    let start = c .before .before .before in
-    omega (arith, few (start .pre .0))
+μ-loop out₀ at tasks jobs rec all n j₀ k₀ out j k = jobCount jobs - j
 
 loop-holds : tie.Need-loop-holds Inv-loop μ-loop
 unfolding jobLines
-loop-holds c = (omega arith, wrote-none _ _)
+loop-holds c = (omega arith, all-judged (c .before .before .before .before .pre .0) none (c .verdicts .ensures), wrote-none _ _)
 
-put-job-at-requires : tie.Need-put-job-at-requires Inv-loop μ-loop
+element-copy-out-judged : tie.Need-element-copy-out-judged Inv-loop μ-loop
 unfolding jobCount
-put-job-at-requires c κs =
-    let at = c .before .before in
-    let start = c .before .before .before .before .before .before in
-    let a = start .args in
-    (start .pre .0, (omega arith, omega (arith, wrote-length (at .loop .inv .1), at .loop .inv .1 .next-is, jobs-length (given (a .mode) (a .tasks .now) (a .jobs .now)) (a .rec) (at .loop .j))))
+element-copy-out-judged c = omega (arith, few (c .before .before .before .before .before .before .pre .0))
 
-add-j : tie.Need-add-j Inv-loop μ-loop
-add-j c = record { fits = omega (arith, few (c .before .before .before .before .before .before .before .before .before .pre .0), c .before .before .before .before .before .loop .inv .0) }
+element-copy-out-place : tie.Need-element-copy-out-place Inv-loop μ-loop
+unfolding jobCount
+element-copy-out-place c = omega (arith, few (c .before .before .before .before .before .before .before .pre .0))
+
+cast-put-job : tie.Need-cast-put-job Inv-loop μ-loop
+unfolding jobCount
+cast-put-job c = omega (arith, few (c .before .before .before .before .before .before .before .before .before .pre .0))
+
+put-job-requires : tie.Need-put-job-requires Inv-loop μ-loop
+unfolding jobCount
+put-job-requires c κs =
+    let at = c .before .before .before .before in
+    let start = at .before .before .before .before .before in
+    let a = start .args in
+    omega (arith, wrote-length (at .loop .inv .2), at .loop .inv .2 .next-is, jobs-length (lists (a .tasks .now) (a .jobs .now)) (a .t3) (at .loop .j))
 
 loop-less : tie.Need-loop-less Inv-loop μ-loop
 unfolding jobCount
 loop-less c = omega arith
 
 loop-again : tie.Need-loop-again Inv-loop μ-loop
-unfolding jobCount
+unfolding jobCount standingAt placeAt
 loop-again c =
-    let at = c .before .before .before .before .before in
-    let a = c .before .before .before .before .before .before .before .before .before .args in
-    (omega arith, wrote-jobs (given (a .mode) (a .tasks .now) (a .jobs .now)) (a .rec) (at .loop .j) (at .loop .inv .1) (c .before .before .put-job-at .ensures))
+    let x = c .before .before in
+    let at = x .before .before .before .before .before in
+    let a = at .before .before .before .before .before .args in
+    (omega arith, at .loop .inv .1, wrote-jobs (lists (a .tasks .now) (a .jobs .now)) (a .t3) (at .loop .j) (at .loop .inv .1 (at .loop .j) (omega arith)) refl (at .loop .inv .2) (x .put-job .ensures))
 
 returns : tie.Need-returns Inv-loop μ-loop
 unfolding jobCount
 returns c =
     let at = c .before in
-    let last : at .loop .j ≡ length (c .before .before .before .before .before .args .jobs .now) / 3 = omega (arith, at .loop .inv .0) in
-    rw last at (at .loop .inv .1)
+    let last : at .loop .j ≡ length (at .before .before .before .before .before .args .jobs .now) / 3 = omega (arith, at .loop .inv .0) in
+    rw last at (at .loop .inv .2)
 
 pub put-jobs-spec : {M : Type 1} → statement M
 put-jobs-spec =
     tie.close
-    (tie.spec
-    Inv-loop
-    μ-loop
-    cast-n
-    loop-holds
-    put-job-at-requires
-    add-j
-    loop-less
-    loop-again
-    (λ c. wrote-length (c .before .loop .inv .1))
-    returns)
+    (tie.spec Inv-loop μ-loop (λ c κs. search needs) loop-holds (λ c. search needs) element-copy-out-judged (λ c. search needs) element-copy-out-place
+    cast-put-job put-job-requires (λ c. search needs) loop-less loop-again (λ c. wrote-length (c .before .loop .inv .2)) returns)

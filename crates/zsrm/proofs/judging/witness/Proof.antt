@@ -1,0 +1,37 @@
+-- What the checks answer decides: the replay's answer, or the refusal.
+use mathlib.Core.Path.{sym, _∙_}
+use native.Mathlib.Omega.{arith}
+use borrow.Author.Needs.{needs}
+use Rattle.tables.proofs.Laws.Refusals.{unless-done, unless-refused}
+use Rattle.zsrm.specs.Answers.{witnessAnswer}
+use Rattle.zsrm.proofs.Laws.Verdicts.{witness-answer, witnessed}
+use Rattle.zsrm.proofs.judging.witness.Statement.{statement}
+use Rattle.zsrm.proofs.judging.witness.Tie as tie
+
+replay-requires : tie.Need-replay-requires
+replay-requires c κs =
+    let w = witnessed _ _ _ _ (sym (c .before .before .check-witness .ensures) ∙ c .enum-told .given .1) in
+    (w .named .lists, w .limit)
+
+judge-at-requires : tie.Need-judge-at-requires
+judge-at-requires c κs =
+    let x = c .before .before in
+    let w = witnessed _ _ _ _ (sym (x .before .before .check-witness .ensures) ∙ x .enum-told .given .1) in
+    omega (arith, w .named .job, w .named .few)
+
+returns : tie.Need-returns
+unfolding witnessAnswer
+returns c =
+    let x = c .before .before .before in
+    witness-answer _ _ _ _ _ _ (x .replay .ensures) (c .before .judge-at .ensures) (c .answer .ensures)
+    ∙ sym (unless-done _ _ _ (sym (x .before .before .before .check-witness .ensures) ∙ x .before .enum-told .given .1))
+
+returns-2 : tie.Need-returns-2
+unfolding witnessAnswer
+returns-2 c = sym (unless-refused _ _ _ _ _ (sym (c .before .before .before .check-witness .ensures) ∙ c .before .checked .given .1))
+
+pub witness-spec : {M : Type 1} → statement M
+witness-spec =
+    tie.close
+    (tie.spec (λ c κs. search needs) (λ c. search needs) replay-requires judge-at-requires (λ c. search needs) (λ c κs. search needs)
+    (λ c. search needs) returns returns-2)
