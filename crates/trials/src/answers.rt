@@ -1,6 +1,6 @@
 // The library's answers as numbers, so that they can be compared, counted and printed: each answer of a call its own small number, a part
 // that is shown NUMBERED and its length, a claim that is not legal NUMBERED and its tick, a job that is late AT_LEAST or EXACTLY and by how
-// much, a refusal REFUSED, its number and 256 times its place.
+// much, a witness outside the assumption OUTSIDE and the job that it names, a refusal REFUSED, its number and 256 times its place.
 ghost use Prim.Native.Nat.{_≤_};
 use zsrm::Claim;
 use zsrm::Mode;
@@ -30,6 +30,8 @@ pub(crate) const NUMBERED: u64 = 65536;
 pub(crate) const AT_LEAST: u64 = 500000;
 
 pub(crate) const EXACTLY: u64 = 600000;
+
+pub(crate) const OUTSIDE: u64 = 700000;
 
 pub(crate) const REFUSED: u64 = 1000000;
 
@@ -69,7 +71,7 @@ pub(crate) fn of_claim(claim: Claim) -> u64 {
     }
 }
 
-// What no run can be late by is told as 65536.
+// What no run can be late by, and no job's number, is told as 65536.
 fn told_by(by: u64) -> u64
     ensures { λ r. ⌜ r ≤ 65536 ⌝ }
 {
@@ -98,6 +100,7 @@ pub(crate) fn of_witness(witness: Witness) -> u64 {
     match witness {
         Witness::Refused(number, place) => refused(number, place),
         Witness::NotLegal(t) => NUMBERED + (t as u64),
+        Witness::Outside(i) => OUTSIDE + told_by(i as u64),
         Witness::NotMissed => NOT_MISSED,
         Witness::AcceptedLate(by, exact) => late_by(by as u64, exact),
         Witness::AcceptedEnded => ACCEPTED_ENDED,

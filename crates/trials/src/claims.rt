@@ -7,6 +7,7 @@ use crate::answers::ENDED;
 use crate::answers::LEGAL;
 use crate::answers::NOT_MISSED;
 use crate::answers::NUMBERED;
+use crate::answers::OUTSIDE;
 use crate::answers::mode_of;
 use crate::answers::of_claim;
 use crate::answers::of_witness;
@@ -21,13 +22,18 @@ use crate::judge::schedule_key;
 use crate::judge::ticks_of;
 use crate::lines::change;
 use crate::list::ARRIVAL;
+use crate::list::CRITICALITY;
 use crate::list::Case;
+use crate::list::EXECUTION;
 use crate::list::Line;
+use crate::list::NOMINAL;
 use crate::list::front_of_line;
 use crate::list::job;
 use crate::list::least;
 use crate::list::less;
 use crate::list::no_line;
+use crate::list::of;
+use crate::list::wide;
 use crate::runs::FAR_JOB;
 use crate::runs::alike;
 use crate::runs::verdict_of;
@@ -53,9 +59,28 @@ fn claim_answer(key: u32, bad: u32) -> u64 {
     }
 }
 
+// The first job that lets a witness against job j prove too much, or 64: of a task that matters more than j's, and longer than planned.
+fn outsider(tasks: &[u32], jobs: &[u32], j: u32) -> u32 {
+    let bar = of(tasks, jobs, (j % 64) as usize, CRITICALITY);
+    let mut first: u32 = 64;
+    for i in 0..64 {
+        let k = (i % 64) as usize;
+        let over = less(job(jobs, k, EXECUTION), of(tasks, jobs, k, NOMINAL));
+        let above = less(of(tasks, jobs, k, CRITICALITY), bar);
+        if (k < jobs.len() / 3) & (0 < over) & (0 < above) {
+            first = least(first, i);
+        }
+    }
+    first
+}
+
 fn witness_answer(replay: Replay, key: u32, tasks: &[u32], jobs: &[u32], j: u32) -> u64 {
     if (key != FINE) | (replay.bad != 0) {
         return claim_answer(key, replay.bad);
+    }
+    let outside = outsider(tasks, jobs, j);
+    if outside < 64 {
+        return OUTSIDE + wide(outside);
     }
     let end = replay.end;
     let verdict = verdict_of(end, tasks, jobs, j);

@@ -3,6 +3,7 @@
 use crate::answers::AT_LEAST;
 use crate::answers::EXACTLY;
 use crate::answers::NUMBERED;
+use crate::answers::OUTSIDE;
 use crate::answers::REFUSED;
 use crate::list::Case;
 use crate::list::at;
@@ -65,13 +66,20 @@ pub(crate) fn add(t: &mut Tally, what: usize, by: u32) {
     }
 }
 
-// The place of an answer among the counts of its call: what is told with a number is the second, what is late the fourth and fifth.
+// The place of an answer among the counts of its call: what is told with a number is the second, what is late the fourth and
+// fifth, what is outside the sixth.
 fn class(answer: u64) -> usize {
     if REFUSED <= answer {
         return 16 + ((answer - REFUSED) % 16) as usize;
     }
     if AT_LEAST <= answer {
-        return if answer < EXACTLY { 3 } else { 4 };
+        return if answer < EXACTLY {
+            3
+        } else if answer < OUTSIDE {
+            4
+        } else {
+            5
+        };
     }
     if NUMBERED <= answer {
         1
@@ -180,9 +188,9 @@ pub(crate) fn report(t: &Tally) {
     );
     line(
         t,
-        b"  witness not missed, not legal, accepted for ended, for late by at least, by exactly:",
+        b"  witness not missed, not legal, accepted for ended, for late by at least, by exactly, outside:",
         WITNESS,
-        5,
+        6,
     );
     line(t, b"  part empty, shown:", PART, 2);
     claims(t);

@@ -12,6 +12,7 @@ pub mod Topmost
 pub mod Step
 pub mod Going
 pub mod Claims
+pub mod Assumption
 pub mod Verdicts
 pub mod Said
 pub mod Answers

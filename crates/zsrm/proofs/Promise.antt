@@ -4,7 +4,7 @@
 -- contract of its function in src/, which takes any input and returns; with `runSchedule` and `runBytes` for what a run writes. `checkLists`,
 -- `checkStep`, `checkSchedule`, `checkVerdict` and `checkWitness` are the checks of each entry point, in the order of their numbers.
 -- `..Said` says an answer in numbers, and Said gives each its name: `done`, `refused number place`, `legal`, `notLegal t`, `met`,
--- `late n isExact`, `ended`, `acceptedLate n isExact`, `acceptedEnded`, `notMissed`, `unfinished`, `finishedAt f`, `endedIn e`.
+-- `late n isExact`, `ended`, `outside i`, `notMissed`, `acceptedLate n isExact`, `acceptedEnded`, `unfinished`, `finishedAt f`, `endedIn e`.
 -- `recordBefore g schedule t` is the record before tick t of the schedule, `replayed g schedule` the one at its end, and
 -- `replay g r entries` the one that entries lead to from r. All of them are definitions of specs/. Laws/Promises has `topmost-example`, a
 -- table that meets the premise of (ii).
@@ -17,26 +17,27 @@ use native.Mathlib.Omega.{arith}
 use lib.ListN.{getD, length}
 use Rattle.zsrm.specs.declared.answers.Judged.{Judged}
 use Rattle.zsrm.specs.declared.record.Record.{Record}
-use Rattle.zsrm.specs.declared.record.Standing.the-variants.{Finished}
+use Rattle.zsrm.specs.declared.record.Standing.the-variants.{Finished, Ended}
 use Rattle.zsrm.specs.Answers.{checkSchedule, checkStep, checkVerdict, checkWitness, claimAnswer, freshAnswer, ran, refusedStep, responseAnswer, judgedAt, runAnswer, runSchedule, stepAnswer, stepped, stepsFrom, verdictAnswer, verdictsAnswer, witnessAnswer}
 use Rattle.zsrm.specs.Record.{blank, consistent, fresh, standingAt}
 use Rattle.tables.specs.Refusals.{checkLists}
 use Rattle.zsrm.specs.Run.{replay, replayed, recordBefore}
-use Rattle.zsrm.specs.Said.{acceptedEnded, acceptedLate, claimSaid, ended, endedIn, finishedAt, late, legal, met, notLegal, notMissed, standingSaid, unfinished, verdictSaid, witnessSaid}
+use Rattle.zsrm.specs.Said.{acceptedEnded, acceptedLate, claimSaid, ended, endedIn, finishedAt, late, legal, met, notLegal, notMissed, standingSaid, unfinished, verdictSaid, witnessSaid, outside}
 use Rattle.tables.specs.Said.{done, outcomeSaid, refused}
 use Rattle.zsrm.specs.Given.{Given}
-use Rattle.tables.specs.Tables.{arrival, deadline, deadlineInstant, idle, jobCount, jobCriticality, taskOf, zeroSlackInstant, lists}
+use Rattle.tables.specs.Tables.{arrival, deadline, deadlineInstant, idle, jobCount, jobCriticality, taskOf, zeroSlackInstant, lists, execution, jobNominal}
 use Rattle.zsrm.specs.Topmost.{Topmost, assured}
 use Rattle.zsrm.specs.Verdict.{emptyPart}
 use Rattle.zsrm.proofs.Laws.Answers.{is-legal, met-answer, run-claim, run-outcome}
+use Rattle.zsrm.proofs.Laws.Assumption.{ended-broken, first-outside}
 use Rattle.zsrm.proofs.Laws.Consistent.{pending-alive}
-use Rattle.zsrm.proofs.Laws.Promises.{ended-accepted, late-accepted, met-not-missed, ran-consistent, ran-entry, ran-replayed, ran-step-done, ran-steps, run-checked, run-refused-keeps, shown-entries, shown-from, shown-length}
+use Rattle.zsrm.proofs.Laws.Promises.{ended-accepted, late-accepted, met-not-missed, outside-answered, ran-consistent, ran-entry, ran-replayed, ran-step-done, ran-steps, run-checked, run-refused-keeps, shown-entries, shown-from, shown-length}
 use Rattle.zsrm.proofs.Laws.Replay.{legal-at, legal-may, replayed-is, tick-recordBefore}
 use Rattle.bits.proofs.Below.{getD-list}
 use Rattle.zsrm.proofs.Laws.Said.{finish-told, standing-said}
 use Rattle.zsrm.proofs.Laws.Tick.{dispatch-serves, past-exactly}
-use Rattle.zsrm.proofs.Laws.Topmost.{assured-in-time, topmost-finished}
-use Rattle.zsrm.proofs.Readings.{LeastIllegal, LegalAt}
+use Rattle.zsrm.proofs.Laws.Topmost.{assured-in-time, topmost-finished, topmost-within}
+use Rattle.zsrm.proofs.Readings.{FirstOutside, LeastIllegal, LegalAt, Within}
 use Rattle.zsrm.proofs.Laws.Verdicts.{legal-consistent}
 use Rattle.tables.proofs.Laws.Accepted.{lists-few, lists-jobs, lists-tasks}
 use Rattle.zsrm.proofs.Laws.Called.{c-refused-both, c-run-claim, c-run-kept, c-run-zero}
@@ -156,15 +157,22 @@ module _ (g : Given) (horizon : ℕ) (schedule : List ℕ) where
       ↔ (outcomeSaid (checkSchedule (g .lists) horizon (length schedule)) ≡ done) × LeastIllegal g schedule t
   not-legal-exactly = exactly.not-legal-exactly g horizon schedule
 
-  -- A witness is accepted exactly when its schedule is legal and the named job is in the list and late or ended in it; against a late job
-  -- it carries by how much, and whether that is exact.
+  -- A witness is accepted exactly when its schedule is legal, the named job is in the list, every strictly more critical job of the list
+  -- keeps to its nominal time C (`Within` in Readings), and the named job is late or ended; against a late job it carries by how much, and
+  -- whether that is exact.
   pub witness-exactly : (j n : ℕ) (isExact : Bool) → witnessSaid (witnessAnswer g horizon schedule j) ≡ acceptedLate n isExact
-      ↔ (claimSaid (claimAnswer g horizon schedule) ≡ legal) × (j < jobCount (g .lists .jobs)) × (verdictSaid (verdictAnswer g (replayed g schedule) j) ≡ late n isExact)
+      ↔ (claimSaid (claimAnswer g horizon schedule) ≡ legal) × (j < jobCount (g .lists .jobs)) × Within g j × (verdictSaid (verdictAnswer g (replayed g schedule) j) ≡ late n isExact)
   witness-exactly j n isExact = late-accepted g horizon schedule j n isExact
 
   pub witness-ended-exactly : (j : ℕ) → witnessSaid (witnessAnswer g horizon schedule j) ≡ acceptedEnded
-      ↔ (claimSaid (claimAnswer g horizon schedule) ≡ legal) × (j < jobCount (g .lists .jobs)) × (verdictSaid (verdictAnswer g (replayed g schedule) j) ≡ ended)
+      ↔ (claimSaid (claimAnswer g horizon schedule) ≡ legal) × (j < jobCount (g .lists .jobs)) × Within g j × (verdictSaid (verdictAnswer g (replayed g schedule) j) ≡ ended)
   witness-ended-exactly j = ended-accepted g horizon schedule j
+
+  -- It is answered "outside the assumption", naming job i, exactly when its schedule is legal, the named job is in the list, and i is the
+  -- first job of the list that is strictly more critical and whose c exceeds its C (`FirstOutside` in Readings).
+  pub witness-outside-exactly : (j i : ℕ) → witnessSaid (witnessAnswer g horizon schedule j) ≡ outside i
+      ↔ (claimSaid (claimAnswer g horizon schedule) ≡ legal) × (j < jobCount (g .lists .jobs)) × FirstOutside g j i
+  witness-outside-exactly j i = outside-answered g horizon schedule j i
 
 -- A verdict from a record that passes the checks: met exactly when the job finished by arrival + D; late by exactly n when it finished n
 -- ticks, one or more, after that instant; late by at least n when it is unfinished n ticks, none or more, after it; ended when it was ended.
@@ -206,6 +214,40 @@ module _ (g : Given) (r : Record) (j : ℕ) where
 pub verdicts-each : (g : Given) (r : Record) (j : ℕ) (d : Judged) → j < 64 → getD (verdictsAnswer g r .of) j d .verdict ≡ verdictAnswer g r j
 unfolding verdictsAnswer judgedAt
 verdicts-each g r j d l = ap (λ (x : Judged). x .verdict) (getD-list 64 (judgedAt g r) j d l)
+
+-- Where a job was ended, some job breaks the assumption.
+module _ (g : Given) (horizon : ℕ) (schedule : List ℕ) where
+  module _ (ok : claimSaid (claimAnswer g horizon schedule) ≡ legal) (j : ℕ) (l : j < jobCount (g .lists .jobs)) where
+    -- In any schedule that the claim check answers legal, a job stands as ended only where some strictly more critical job of the list has a
+    -- c that exceeds its C ..
+    pub ended-by-overrun : (e : ℕ) → standingSaid (standingAt (replayed g schedule) j) ≡ endedIn e
+        → (i : ℕ) × (i < jobCount (g .lists .jobs)) × (jobCriticality (g .lists) j < jobCriticality (g .lists) i) × (jobNominal (g .lists) i < execution (g .lists .jobs) i)
+    unfolding standingSaid
+    ended-by-overrun e says =
+        let c = is-legal g horizon schedule ok in
+        let a = c .input in
+        let few = lists-few (g .lists) (a .lists) in
+        let w = ended-broken g few schedule (omega arith) (c .legal) j e (omega arith) (standing-said (standingAt (replayed g schedule) j) (Ended e) says) in
+        (w .0, w .1, w .2 .0, w .2 .1)
+
+    -- .. so within the assumption the named job is not ended ..
+    pub within-unended : Within g j → (e : ℕ) → standingSaid (standingAt (replayed g schedule) j) ≡ endedIn e → ⊥
+    within-unended keeps e says = let w = ended-by-overrun e says in omega (arith, w .3, keeps (w .0) (w .1) (w .2))
+
+    -- .. a witness against a job that was ended is always outside ..
+    pub ended-outside : verdictSaid (verdictAnswer g (replayed g schedule) j) ≡ ended → (i : ℕ) × (witnessSaid (witnessAnswer g horizon schedule j) ≡ outside i)
+    ended-outside says =
+        let e = ended-exactly g (replayed g schedule) j .0 says .1 in
+        let w = ended-by-overrun (e .0) (e .1) in
+        let i = first-outside g j (w .0, w .1, (w .2, w .3)) in
+        (i .0, witness-outside-exactly g horizon schedule j (i .0) .1 (ok, l, i .1))
+
+  -- .. and no witness is accepted against one.
+  pub never-accepted-ended : (j : ℕ) → witnessSaid (witnessAnswer g horizon schedule j) ≡ acceptedEnded → ⊥
+  never-accepted-ended j says =
+      let w = witness-ended-exactly g horizon schedule j .0 says in
+      let e = ended-exactly g (replayed g schedule) j .0 (w .3) .1 in
+      within-unended (w .0) j (w .1) (w .2) (e .0) (e .1)
 
 -- The calls from C, over the lists that the bytes spell: 0 is "done" of a run and "legal" of a claim, 65,536 + t is "not legal at t"; the
 -- bytes that a run then has written are our run's, and the claim check calls them legal.
@@ -289,7 +331,10 @@ module _ (g : Given) (horizon : ℕ) (schedule : List ℕ) (ok : claimSaid (clai
 
     -- So no witness is accepted against it: the answer is "not missed".
     pub never-blamed : deadlineInstant (g .lists) j ≤ horizon → witnessSaid (witnessAnswer g horizon schedule j) ≡ notMissed
-    never-blamed h = met-not-missed g horizon schedule ok j l (meets h)
+    never-blamed h =
+        let a = is-legal g horizon schedule ok .input in
+        met-not-missed g horizon schedule ok j l
+        (topmost-within g k (lists-tasks (g .lists) (a .lists)) (lists-jobs (g .lists) (a .lists)) top j (record { job = l; its = its })) (meets h)
 
   -- ## The part that is shown of a job that finished at f: the schedule's entries from its arrival up to f
 

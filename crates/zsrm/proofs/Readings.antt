@@ -11,9 +11,10 @@ use lib.Count.{ones}
 use lib.Dec.{eqb, leb, ltb}
 use lib.ListN.{getD, length}
 use borrow.Author.Tests.{eq-eqb, eqb-false, eqb-true, le-leb, leb-false, leb-true, lt-leb, ne-eqb}
-use Rattle.bits.specs.Below.{bit}
+use Rattle.bits.specs.Below.{bit, least, some}
+use Rattle.bits.proofs.Below.{least-found, some-true}
 use Rattle.bits.proofs.Bools.{by-cond, clash, fails}
-use Rattle.bits.proofs.Readings.{and-reads, eq-reads, least-none-reads, least-reads, lt-reads, none-reads, not-reads, or-else, or-reads, some-reads}
+use Rattle.bits.proofs.Readings.{and-fails, and-reads, eq-reads, least-none-reads, least-reads, lt-fails, lt-reads, none-reads, not-reads, or-else, or-reads, some-reads}
 use Rattle.bits.proofs.Word.{bit-word}
 use Rattle.zsrm.specs.declared.answers.Claim.the-variants.{Legal, NotLegal}
 use Rattle.zsrm.specs.declared.answers.Verdict.{Verdict}
@@ -28,7 +29,7 @@ use Rattle.zsrm.specs.Given.{isSE, Given}
 use Rattle.zsrm.specs.Run.{replayed, recordBefore}
 use Rattle.tables.specs.Tables.{arrival, deadlineInstant, execution, idle, jobCount, jobCriticality, jobNominal, jobPriority, zeroSlackInstant}
 use Rattle.zsrm.specs.Tick.{advanced, alive, candidate, choice, doneAfter, eligible, endedWord, ends, finishes, jobWord, moreCritical, over, pastZeroSlack, readyAt, readyCount, readyWord, someJob, suspended}
-use Rattle.zsrm.specs.Verdict.{answered, blamed, judged, missed, verdict, witness}
+use Rattle.zsrm.specs.Verdict.{answered, blamed, breaks, isOutside, judged, missed, outsider, verdict, witness}
 use Rattle.zsrm.proofs.Laws.Places.{done-advanced, alive-unfinished, standing-alive}
 use Rattle.zsrm.proofs.Laws.Ready.{ready-ones, ready-exactly}
 use Rattle.zsrm.proofs.Laws.Replay.{legal-at, Beginning, beginning, beginning-is}
@@ -47,7 +48,7 @@ abbrev pub EveryJob : Given → (ℕ → Type 0) → Type 0
 EveryJob g P = (j : ℕ) → j < jobCount (g .lists .jobs) → P j
 
 -- for the proofs: two constructors are never equal, which `cc` finds
-apart : {A : Type 0} → _≡_ {A = ℕ} 0 1 → A
+pub apart : {A : Type 0} → _≡_ {A = ℕ} 0 1 → A
 apart z = absurd (omega arith)
 
 -- ## The record
@@ -313,17 +314,75 @@ missed-reads v = (there v, ⊎-elim (λ e. rw (e .2)) (λ e. rw e))
     there verdicts.Ended h = inr refl
     there verdicts.Open h = apart (cc)
 
--- "A witness is a claim with a job number. Answers, in order: not legal at t; not missed; accepted."
+-- A miss of job j counts against a table "only where every job of a strictly more critical task than the named one keeps to its nominal
+-- time C": within the assumption.
+abbrev pub Within : Given → ℕ → Type 0
+Within g j = EveryJob g (λ i. jobCriticality (g .lists) j < jobCriticality (g .lists) i → execution (g .lists .jobs) i ≤ jobNominal (g .lists) i)
+
+-- Job i breaks the assumption: it is strictly more critical, and its c exceeds its C.
+abbrev pub Breaks : Given → ℕ → ℕ → Type 0
+Breaks g j i = (jobCriticality (g .lists) j < jobCriticality (g .lists) i) × (jobNominal (g .lists) i < execution (g .lists .jobs) i)
+
+-- Outside it, "naming the first such job": the job i of the list breaks it, and no job of a lower number does.
+pub record FirstOutside (g : Given) (j i : ℕ) : Type 0 where
+  pub job : i < jobCount (g .lists .jobs)
+  pub more-critical : jobCriticality (g .lists) j < jobCriticality (g .lists) i
+  pub exceeds : jobNominal (g .lists) i < execution (g .lists .jobs) i
+  pub lowest : (k : ℕ) → k < i → jobCriticality (g .lists) j < jobCriticality (g .lists) k → execution (g .lists .jobs) k ≤ jobNominal (g .lists) k
+
+module _ (g : Given) (j : ℕ) where
+  breaks-reads : (i : ℕ) → breaks (g .lists) j i ≡ true ↔ Breaks g j i
+  unfolding breaks
+  breaks-reads i = and-reads (lt-reads _ _) (lt-reads _ _)
+
+  keeps-reads : (i : ℕ) → breaks (g .lists) j i ≡ false
+      ↔ (jobCriticality (g .lists) j < jobCriticality (g .lists) i → execution (g .lists .jobs) i ≤ jobNominal (g .lists) i)
+  unfolding breaks
+  keeps-reads i = Iff·trans (and-fails (lt-fails _ _)) (λ h m. h (lt-reads _ _ .1 m), λ h t. h (lt-reads _ _ .0 t))
+
+  pub within-reads : isOutside (g .lists) j ≡ false ↔ Within g j
+  unfolding isOutside someJob
+  within-reads = none-reads _ keeps-reads
+
+  pub outside-reads : (i : ℕ) → (isOutside (g .lists) j ≡ true) × (outsider (g .lists) j ≡ i) ↔ FirstOutside g j i
+  unfolding isOutside someJob outsider
+  outside-reads i = (there, back)
+    where
+      n : ℕ
+      n = jobCount (g .lists .jobs)
+
+      there : (some n (breaks (g .lists) j) ≡ true) × (least n (breaks (g .lists) j) n ≡ i) → FirstOutside g j i
+      there w =
+          let l : i < n = omega (arith, w .1, least-found (breaks (g .lists) j) n n (w .0) .0) in
+          let f = least-reads (breaks (g .lists) j) n n i l (omega arith) .0 (w .1) in
+          let b = breaks-reads i .0 (f .0) in
+          record { job = l; more-critical = b .0; exceeds = b .1; lowest = λ k m. keeps-reads k .0 (f .1 k m) }
+
+      back : FirstOutside g j i → (some n (breaks (g .lists) j) ≡ true) × (least n (breaks (g .lists) j) n ≡ i)
+      back w =
+          let b = breaks-reads i .1 (w .more-critical, w .exceeds) in
+          (some-true (breaks (g .lists) j) n i (w .job) b, least-reads (breaks (g .lists) j) n n i (w .job) (omega arith) .1 (b, λ k m. keeps-reads k .1 (w .lowest k m)))
+
+-- for the proofs: against a job that has not missed no witness is accepted
+pub spared : (x : Verdict) → missed x ≡ false → blamed x ≡ witnesses.NotMissed
+spared (verdicts.Refused number place) h = refl
+spared verdicts.Met h = refl
+spared (verdicts.Late by isExact) h = apart (cc)
+spared verdicts.Ended h = apart (cc)
+spared verdicts.Open h = refl
+
+-- "A witness is a claim with a job number. Answers, in order: not legal at t;" outside the assumption; "not missed; accepted."
 abbrev pub Answered : Given → List ℕ → ℕ → Witness → Type 0
 Answered g es j (witnesses.NotLegal t) = claim g es ≡ NotLegal t
-Answered g es j witnesses.NotMissed = (claim g es ≡ Legal) × (missed (verdict (g .lists) (replayed g es) j) ≡ false)
-Answered g es j (witnesses.AcceptedLate n isExact) = (claim g es ≡ Legal) × (verdict (g .lists) (replayed g es) j ≡ verdicts.Late n isExact)
-Answered g es j witnesses.AcceptedEnded = (claim g es ≡ Legal) × (verdict (g .lists) (replayed g es) j ≡ verdicts.Ended)
+Answered g es j (witnesses.Outside i) = (claim g es ≡ Legal) × FirstOutside g j i
+Answered g es j witnesses.NotMissed = (claim g es ≡ Legal) × Within g j × (missed (verdict (g .lists) (replayed g es) j) ≡ false)
+Answered g es j (witnesses.AcceptedLate n isExact) = (claim g es ≡ Legal) × Within g j × (verdict (g .lists) (replayed g es) j ≡ verdicts.Late n isExact)
+Answered g es j witnesses.AcceptedEnded = (claim g es ≡ Legal) × Within g j × (verdict (g .lists) (replayed g es) j ≡ verdicts.Ended)
 Answered g es j (witnesses.Refused number place) = ⊥
 
 pub witness-reads : (g : Given) (es : List ℕ) (j : ℕ) (w : Witness) → witness g es j ≡ w ↔ Answered g es j w
 unfolding witness claim
-witness-reads g es j w = (λ e. subst (λ (x : Witness). Answered g es j x) e (holds (isLegal g es) refl v refl), back w)
+witness-reads g es j w = (λ e. subst (λ (x : Witness). Answered g es j x) e (holds (isLegal g es) refl (isOutside (g .lists) j) refl v refl), back w)
   where
     v : Verdict
     v = verdict (g .lists) (replayed g es) j
@@ -331,29 +390,27 @@ witness-reads g es j w = (λ e. subst (λ (x : Witness). Answered g es j x) e (h
     n : ℕ
     n = legalLength g es
 
-    holds : (l : Bool) → isLegal g es ≡ l → (x : Verdict) → v ≡ x → Answered g es j (answered l n x)
-    holds false q x k = rw q
-    holds true q (verdicts.Refused number place) k = (rw q, ap missed k)
-    holds true q verdicts.Met k = (rw q, ap missed k)
-    holds true q (verdicts.Late by isExact) k = (rw q, k)
-    holds true q verdicts.Ended k = (rw q, k)
-    holds true q verdicts.Open k = (rw q, ap missed k)
+    first : ℕ
+    first = outsider (g .lists) j
+
+    holds : (l : Bool) → isLegal g es ≡ l → (o : Bool) → isOutside (g .lists) j ≡ o → (x : Verdict) → v ≡ x → Answered g es j (answered l n o first x)
+    holds false q o p x k = rw q
+    holds true q true p x k = (rw q, outside-reads g j first .0 (p, refl))
+    holds true q false p (verdicts.Refused number place) k = (rw q, within-reads g j .0 p, ap missed k)
+    holds true q false p verdicts.Met k = (rw q, within-reads g j .0 p, ap missed k)
+    holds true q false p (verdicts.Late by isExact) k = (rw q, within-reads g j .0 p, k)
+    holds true q false p verdicts.Ended k = (rw q, within-reads g j .0 p, k)
+    holds true q false p verdicts.Open k = (rw q, within-reads g j .0 p, ap missed k)
 
     legal : claim g es ≡ Legal → isLegal g es ≡ true
     legal = by-cond (λ c. c ≡ Legal → isLegal g es ≡ true) (isLegal g es) Legal (NotLegal n) (λ q e. q) (λ q e. apart (cc))
 
-    spared : (x : Verdict) → missed x ≡ false → blamed x ≡ witnesses.NotMissed
-    spared (verdicts.Refused number place) h = refl
-    spared verdicts.Met h = refl
-    spared (verdicts.Late by isExact) h = apart (cc)
-    spared verdicts.Ended h = apart (cc)
-    spared verdicts.Open h = refl
-
     back : (w : Witness) → Answered g es j w → witness g es j ≡ w
     back (witnesses.NotLegal t) a =
-        by-cond (λ c. c ≡ NotLegal t → answered (isLegal g es) n v ≡ witnesses.NotLegal t) (isLegal g es) Legal (NotLegal n) (λ q e. apart (cc))
+        by-cond (λ c. c ≡ NotLegal t → answered (isLegal g es) n (isOutside (g .lists) j) first v ≡ witnesses.NotLegal t) (isLegal g es) Legal (NotLegal n) (λ q e. apart (cc))
         (λ q e. let same : n ≡ t = cc in rw q (ap witnesses.NotLegal same)) a
-    back witnesses.NotMissed a = rw (legal (a .0)) (spared v (a .1))
-    back (witnesses.AcceptedLate by isExact) a = rw (legal (a .0), a .1)
-    back witnesses.AcceptedEnded a = rw (legal (a .0), a .1)
+    back (witnesses.Outside i) a = let w = outside-reads g j i .1 (a .1) in rw (legal (a .0), w .0) (ap witnesses.Outside (w .1))
+    back witnesses.NotMissed a = rw (legal (a .0), within-reads g j .1 (a .1)) (spared v (a .2))
+    back (witnesses.AcceptedLate by isExact) a = rw (legal (a .0), within-reads g j .1 (a .1), a .2)
+    back witnesses.AcceptedEnded a = rw (legal (a .0), within-reads g j .1 (a .1), a .2)
     back (witnesses.Refused number place) a = absurd a

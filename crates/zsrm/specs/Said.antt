@@ -1,7 +1,7 @@
 -- Every answer said in numbers, and each under its name: what the promises speak in. A refusal is its number and its place, two numbers as
--- in every kind of answer (`refused` in tables, beside `done`); an answer about a late job is three numbers, any other is one. Document 01
--- has the numbers of "legal" and "not legal at t", the others are ours. Within one kind of answer equal numbers are equal answers
--- (proofs/Laws/Said).
+-- in every kind of answer (`refused` in tables, beside `done`); an answer about a late job is three, and so is "outside"; every other is one.
+-- Document 01 has the numbers of "legal" and "not legal at t", the others are ours. Within one kind of answer equal numbers are equal
+-- answers (proofs/Laws/Said).
 use Prim.Native.Nat.{ℕ, _+_}
 use mathlib.Core.Bool.{Bool, true, false}
 use mathlib.Core.List.{List, [], _∷_}
@@ -52,7 +52,10 @@ verdictSaid (verdicts.Late by isExact) = late by isExact
 verdictSaid verdicts.Ended = ended
 verdictSaid verdicts.Open = stillOpen
 
--- of a witness; accepted against a late job it is three numbers, too
+-- of a witness; outside the assumption it is three numbers, the second the job named; accepted against a late job it is three, too
+abbrev pub outside : ℕ → List ℕ
+outside i = 3 ∷ i ∷ 0 ∷ []
+
 abbrev pub acceptedLate : ℕ → Bool → List ℕ
 acceptedLate by isExact = 0 ∷ by ∷ flag isExact ∷ []
 
@@ -65,6 +68,7 @@ notMissed = 1 ∷ []
 unfoldable pub witnessSaid : Witness → List ℕ
 witnessSaid (witnesses.Refused number place) = refused number place
 witnessSaid (witnesses.NotLegal t) = notLegal t
+witnessSaid (witnesses.Outside i) = outside i
 witnessSaid witnesses.NotMissed = notMissed
 witnessSaid (witnesses.AcceptedLate by isExact) = acceptedLate by isExact
 witnessSaid witnesses.AcceptedEnded = acceptedEnded

@@ -1,4 +1,4 @@
--- Document 01, "Traced schedules": the cases marked P, case 11, and one of ours, as one table. What a case says is set beside what the
+-- Document 01, "Traced schedules": the cases marked P, case 11, and three of ours, as one table. What a case says is set beside what the
 -- entry points answer.
 use Prim.Native.Nat.{ℕ}
 use mathlib.Core.Bool.{true, false}
@@ -15,19 +15,22 @@ use Rattle.zsrm.specs.declared.answers.Claim.{Claim}
 use Rattle.zsrm.specs.declared.answers.Claim.the-variants.{Legal, NotLegal}
 use Rattle.zsrm.specs.declared.answers.Verdict.{Verdict}
 use Rattle.zsrm.specs.declared.answers.Verdict.the-variants.{Met, Late, Open, Ended as EndedV}
+use Rattle.zsrm.specs.declared.answers.Witness.{Witness}
+use Rattle.zsrm.specs.declared.answers.Witness.the-variants.{Outside, NotMissed, AcceptedLate}
 use Rattle.zsrm.specs.Given.{Given, given}
 use Rattle.tables.specs.Tables.{idle, jobCount}
 use Rattle.zsrm.specs.Record.{standingAt}
-use Rattle.zsrm.specs.Answers.{runAnswer, runSchedule, claimAnswer, verdictAnswer}
+use Rattle.zsrm.specs.Answers.{runAnswer, runSchedule, claimAnswer, verdictAnswer, witnessAnswer}
 
 -- of a run: its outcome, its entries, where each job stands at its end, with finishing instant or ending tick, and each job's verdict;
--- the answer to the claim of those entries; and the answers to further claims
+-- the answers to the claim of those entries, and to them as a witness against each job; and the answers to further claims
 pub record Trace : Type 0 where
   pub outcome : Outcome
   pub entries : List ℕ
   pub standings : List Standing
   pub verdicts : List Verdict
   pub own : Claim
+  pub witnesses : List Witness
   pub further : List Claim
 
 pub record Case : Type 0 where
@@ -36,7 +39,7 @@ pub record Case : Type 0 where
   pub claims : List (List ℕ)
   pub trace : Trace
 
--- what document 01, and of the case of ours we, say of a case
+-- what document 01 says of a case, request Three of its witnesses, and we of the cases of ours
 unfoldable pub said : Case → Trace
 said c = c .trace
 
@@ -55,6 +58,7 @@ computed c =
       standings = listFrom 0 n (standingAt (ran .«record»));
       verdicts = listFrom 0 n (verdictAnswer g (ran .«record»));
       own = claimAnswer g h es;
+      witnesses = listFrom 0 n (witnessAnswer g h es);
       further = map (claimAnswer g h) (c .claims);
     }
 
@@ -74,13 +78,13 @@ abbrev pub both : List ℕ
 both = 0 ∷ 0 ∷ 3 ∷ 1 ∷ 0 ∷ 3 ∷ []
 
 -- a case over Fig. 1: accepted, and its run a legal claim
-abbrev pub onFig1 : Mode → List ℕ → ℕ → List ℕ → List Standing → List Verdict → Case
-onFig1 m jobs h es ss vs =
+abbrev pub onFig1 : Mode → List ℕ → ℕ → List ℕ → List Standing → List Verdict → List Witness → Case
+onFig1 m jobs h es ss vs ws =
     record {
       setting = given m fig1 jobs;
       horizon = h;
       claims = [];
-      trace = record { outcome = Done; entries = es; standings = ss; verdicts = vs; own = Legal; further = [] };
+      trace = record { outcome = Done; entries = es; standings = ss; verdicts = vs; own = Legal; witnesses = ws; further = [] };
     }
 
 -- case 10: the run is 000111, the claim 111000 legal, 010101 not legal at 1
@@ -97,6 +101,7 @@ onEquals m =
             standings = Finished 3 ∷ Finished 6 ∷ [];
             verdicts = Met ∷ Met ∷ [];
             own = Legal;
+            witnesses = NotMissed ∷ NotMissed ∷ [];
             further = Legal ∷ NotLegal 1 ∷ [];
           };
     }
@@ -118,6 +123,33 @@ nested =
             standings = Finished 11 ∷ Finished 9 ∷ Finished 7 ∷ [];
             verdicts = Met ∷ Met ∷ Met ∷ [];
             own = Legal;
+            witnesses = NotMissed ∷ NotMissed ∷ NotMissed ∷ [];
+            further = [];
+          };
+    }
+
+-- A case of ours, for the assumption of a witness, which is about the whole list: job 1 arrives at the horizon only, and its c exceeds its C.
+-- Against job 1 itself that does not matter.
+abbrev pub ahead : Case
+ahead =
+    onFig1 S (0 ∷ 0 ∷ 1 ∷ 1 ∷ 8 ∷ 10 ∷ []) 8 (0 ∷ idle ∷ idle ∷ idle ∷ idle ∷ idle ∷ idle ∷ idle ∷ [])
+    (Finished 1 ∷ Unfinished ∷ []) (Met ∷ Open ∷ []) (Outside 1 ∷ NotMissed ∷ [])
+
+-- A case of ours, for a witness that is accepted: the jobs of two equally critical tasks, with C 3 and Co 6, both run to Co.
+abbrev pub peers : Case
+peers =
+    record {
+      setting = given S (10 ∷ 10 ∷ 3 ∷ 6 ∷ 1 ∷ 1 ∷ 10 ∷ 10 ∷ 10 ∷ 3 ∷ 6 ∷ 1 ∷ 1 ∷ 10 ∷ []) (0 ∷ 0 ∷ 6 ∷ 1 ∷ 0 ∷ 6 ∷ []);
+      horizon = 12;
+      claims = [];
+      trace =
+          record {
+            outcome = Done;
+            entries = 0 ∷ 0 ∷ 0 ∷ 0 ∷ 0 ∷ 0 ∷ 1 ∷ 1 ∷ 1 ∷ 1 ∷ 1 ∷ 1 ∷ [];
+            standings = Finished 6 ∷ Finished 12 ∷ [];
+            verdicts = Met ∷ Late 2 true ∷ [];
+            own = Legal;
+            witnesses = NotMissed ∷ AcceptedLate 2 true ∷ [];
             further = [];
           };
     }
@@ -126,26 +158,28 @@ nested =
 unfoldable pub table : List Case
 table =
     onFig1 S (listA 5) 16 (0 ∷ 0 ∷ 0 ∷ 0 ∷ 1 ∷ 1 ∷ 1 ∷ 1 ∷ 2 ∷ 2 ∷ 1 ∷ 2 ∷ 2 ∷ idle ∷ idle ∷ idle ∷ [])
-    (Finished 4 ∷ Finished 11 ∷ Finished 13 ∷ []) (Met ∷ Met ∷ Met ∷ [])
+    (Finished 4 ∷ Finished 11 ∷ Finished 13 ∷ []) (Met ∷ Met ∷ Met ∷ []) (NotMissed ∷ NotMissed ∷ NotMissed ∷ [])
     ∷ onFig1 S (listA 10) 18 (0 ∷ 0 ∷ 0 ∷ 0 ∷ 1 ∷ 1 ∷ 1 ∷ 1 ∷ 2 ∷ 2 ∷ 1 ∷ 1 ∷ 1 ∷ 1 ∷ 1 ∷ 1 ∷ 2 ∷ 2 ∷ [])
-    (Finished 4 ∷ Finished 16 ∷ Finished 18 ∷ []) (Met ∷ Met ∷ Late 2 true ∷ [])
+    (Finished 4 ∷ Finished 16 ∷ Finished 18 ∷ []) (Met ∷ Met ∷ Late 2 true ∷ []) (Outside 1 ∷ NotMissed ∷ Outside 1 ∷ [])
     ∷ onFig1 S (listA 10) 16 (0 ∷ 0 ∷ 0 ∷ 0 ∷ 1 ∷ 1 ∷ 1 ∷ 1 ∷ 2 ∷ 2 ∷ 1 ∷ 1 ∷ 1 ∷ 1 ∷ 1 ∷ 1 ∷ [])
-    (Finished 4 ∷ Finished 16 ∷ Unfinished ∷ []) (Met ∷ Met ∷ Late 0 false ∷ [])
+    (Finished 4 ∷ Finished 16 ∷ Unfinished ∷ []) (Met ∷ Met ∷ Late 0 false ∷ []) (Outside 1 ∷ NotMissed ∷ Outside 1 ∷ [])
     ∷ onFig1 S (listA 10) 15 (0 ∷ 0 ∷ 0 ∷ 0 ∷ 1 ∷ 1 ∷ 1 ∷ 1 ∷ 2 ∷ 2 ∷ 1 ∷ 1 ∷ 1 ∷ 1 ∷ 1 ∷ [])
-    (Finished 4 ∷ Unfinished ∷ Unfinished ∷ []) (Met ∷ Open ∷ Open ∷ [])
+    (Finished 4 ∷ Unfinished ∷ Unfinished ∷ []) (Met ∷ Open ∷ Open ∷ []) (Outside 1 ∷ NotMissed ∷ Outside 1 ∷ [])
     ∷ onFig1 SE (listA 10) 18 (0 ∷ 0 ∷ 0 ∷ 0 ∷ 1 ∷ 1 ∷ 1 ∷ 1 ∷ 2 ∷ 2 ∷ 1 ∷ 1 ∷ 1 ∷ 1 ∷ 1 ∷ 1 ∷ idle ∷ idle ∷ [])
-    (Finished 4 ∷ Finished 16 ∷ Ended 11 ∷ []) (Met ∷ Met ∷ EndedV ∷ [])
+    (Finished 4 ∷ Finished 16 ∷ Ended 11 ∷ []) (Met ∷ Met ∷ EndedV ∷ []) (Outside 1 ∷ NotMissed ∷ Outside 1 ∷ [])
     ∷ onFig1 SE (listA 6) 16 (0 ∷ 0 ∷ 0 ∷ 0 ∷ 1 ∷ 1 ∷ 1 ∷ 1 ∷ 2 ∷ 2 ∷ 1 ∷ 1 ∷ idle ∷ idle ∷ idle ∷ idle ∷ [])
-    (Finished 4 ∷ Finished 12 ∷ Ended 11 ∷ []) (Met ∷ Met ∷ EndedV ∷ [])
+    (Finished 4 ∷ Finished 12 ∷ Ended 11 ∷ []) (Met ∷ Met ∷ EndedV ∷ []) (Outside 1 ∷ NotMissed ∷ Outside 1 ∷ [])
     ∷ onFig1 SE (listA 5) 16 (0 ∷ 0 ∷ 0 ∷ 0 ∷ 1 ∷ 1 ∷ 1 ∷ 1 ∷ 2 ∷ 2 ∷ 1 ∷ 2 ∷ 2 ∷ idle ∷ idle ∷ idle ∷ [])
-    (Finished 4 ∷ Finished 11 ∷ Finished 13 ∷ []) (Met ∷ Met ∷ Met ∷ [])
+    (Finished 4 ∷ Finished 11 ∷ Finished 13 ∷ []) (Met ∷ Met ∷ Met ∷ []) (NotMissed ∷ NotMissed ∷ NotMissed ∷ [])
     ∷ onFig1 S (listA 6) 16 (0 ∷ 0 ∷ 0 ∷ 0 ∷ 1 ∷ 1 ∷ 1 ∷ 1 ∷ 2 ∷ 2 ∷ 1 ∷ 1 ∷ 2 ∷ 2 ∷ idle ∷ idle ∷ [])
-    (Finished 4 ∷ Finished 12 ∷ Finished 14 ∷ []) (Met ∷ Met ∷ Met ∷ [])
+    (Finished 4 ∷ Finished 12 ∷ Finished 14 ∷ []) (Met ∷ Met ∷ Met ∷ []) (Outside 1 ∷ NotMissed ∷ Outside 1 ∷ [])
     ∷ onFig1 SE (listA 10 ++ (0 ∷ 16 ∷ 4 ∷ [])) 20
     (0 ∷ 0 ∷ 0 ∷ 0 ∷ 1 ∷ 1 ∷ 1 ∷ 1 ∷ 2 ∷ 2 ∷ 1 ∷ 1 ∷ 1 ∷ 1 ∷ 1 ∷ 1 ∷ 3 ∷ 3 ∷ 3 ∷ 3 ∷ [])
-    (Finished 4 ∷ Finished 16 ∷ Ended 11 ∷ Finished 20 ∷ []) (Met ∷ Met ∷ EndedV ∷ Met ∷ [])
+    (Finished 4 ∷ Finished 16 ∷ Ended 11 ∷ Finished 20 ∷ []) (Met ∷ Met ∷ EndedV ∷ Met ∷ []) (Outside 1 ∷ NotMissed ∷ Outside 1 ∷ Outside 1 ∷ [])
     ∷ onEquals S
     ∷ onEquals SE
-    ∷ onFig1 S (listA 5) 0 [] (Unfinished ∷ Unfinished ∷ NotArrived ∷ []) (Open ∷ Open ∷ Open ∷ [])
+    ∷ onFig1 S (listA 5) 0 [] (Unfinished ∷ Unfinished ∷ NotArrived ∷ []) (Open ∷ Open ∷ Open ∷ []) (NotMissed ∷ NotMissed ∷ NotMissed ∷ [])
     ∷ nested
+    ∷ ahead
+    ∷ peers
     ∷ []

@@ -1,19 +1,21 @@
 -- Document 01, verdicts, witnesses, and the part of the schedule that is shown.
 use Prim.Native.Nat.{ℕ, _+_, _*_, _-_}
-use mathlib.Core.Bool.{Bool, true, false, cond}
+use mathlib.Core.Bool.{Bool, true, false, _&&_, cond}
 use mathlib.Core.List.{List, []}
 use mathlib.Core.Path.{_≡_}
 use lib.ListN.{take, drop}
-use lib.Dec.{leb}
+use lib.Dec.{leb, ltb}
+use Rattle.bits.specs.Below.{least}
 use Rattle.zsrm.specs.declared.record.Standing.{Standing}
 use Rattle.zsrm.specs.declared.record.Standing.the-variants.{NotArrived, Unfinished, Finished, Ended}
 use Rattle.zsrm.specs.declared.record.Record.{Record}
 use Rattle.zsrm.specs.declared.answers.Verdict.{Verdict}
 use Rattle.zsrm.specs.declared.answers.Witness.{Witness}
 use Rattle.zsrm.specs.Given.{Given}
-use Rattle.tables.specs.Tables.{Lists, arrival, deadlineInstant}
+use Rattle.tables.specs.Tables.{Lists, arrival, deadlineInstant, execution, jobCount, jobCriticality, jobNominal}
 use Rattle.zsrm.specs.Record.{standingAt}
 use Rattle.zsrm.specs.Run.{replayed}
+use Rattle.zsrm.specs.Tick.{someJob}
 use Rattle.zsrm.specs.Legal.{isLegal, legalLength}
 use Rattle.zsrm.specs.declared.answers.Verdict.the-variants as verdicts
 use Rattle.zsrm.specs.declared.answers.Witness.the-variants as witnesses
@@ -47,10 +49,25 @@ blamed (verdicts.Late by isExact) = witnesses.AcceptedLate by isExact
 blamed verdicts.Ended = witnesses.AcceptedEnded
 blamed verdicts.Open = witnesses.NotMissed
 
--- The answers to a witness, in order: not legal at t; not missed; accepted. n is the length of the schedule's legal beginning.
-abbrev pub answered : Bool → ℕ → Verdict → Witness
-answered false n v = witnesses.NotLegal n
-answered true n v = blamed v
+-- A miss counts against a table only where every job of a strictly more critical task than the named one keeps to its nominal time C
+-- (source document 000, legMCS). Job i breaks this assumption for the named job j: it is strictly more critical, and its c exceeds its C.
+unfoldable pub breaks : Lists → ℕ → ℕ → Bool
+breaks l j i = ltb (jobCriticality l j) (jobCriticality l i) && ltb (jobNominal l i) (execution (l .jobs) i)
+
+-- Outside the assumption: some job of the list breaks it, arrived by the horizon or not.
+unfoldable pub isOutside : Lists → ℕ → Bool
+isOutside l j = someJob (l .jobs) (breaks l j)
+
+-- the first such job; where there is none the number of jobs, which is no job's
+unfoldable pub outsider : Lists → ℕ → ℕ
+outsider l j = least (jobCount (l .jobs)) (breaks l j) (jobCount (l .jobs))
+
+-- The answers to a witness, in order: not legal at t; outside the assumption, naming the first such job; not missed; accepted. n is the
+-- length of the schedule's legal beginning, i the job to be named where the witness is outside.
+abbrev pub answered : Bool → ℕ → Bool → ℕ → Verdict → Witness
+answered false n outside i v = witnesses.NotLegal n
+answered true n true i v = witnesses.Outside i
+answered true n false i v = blamed v
 
 -- A part of a schedule: the tick at which it begins, and its entries.
 pub record Part : Type 0 where
@@ -82,7 +99,8 @@ pub record Shows (schedule : ℕ × ℕ) (p : Part) (place : ℕ × ℕ) (entrie
 module _ (g : Given) (schedule : List ℕ) where
   -- A witness is a claim with a job number.
   unfoldable pub witness : ℕ → Witness
-  witness j = answered (isLegal g schedule) (legalLength g schedule) (verdict (g .lists) (replayed g schedule) j)
+  witness j =
+      answered (isLegal g schedule) (legalLength g schedule) (isOutside (g .lists) j) (outsider (g .lists) j) (verdict (g .lists) (replayed g schedule) j)
 
   unfoldable pub part : ℕ → Part
   part j = shownBy (isLegal g schedule) (partTo (arrival (g .lists .jobs) j) schedule (standingAt (replayed g schedule) j))

@@ -71,8 +71,11 @@ pub struct Verdicts {
 pub enum Witness {
     Refused(u32, u32),
     NotLegal(u32),
+    // outside the assumption: the first job that breaks it
+    Outside(u32),
     NotMissed,
     // by how many ticks the job is late, and whether that is exact
     AcceptedLate(u32, bool),
+    // "missed" has this case; no witness meets it, since whatever ended a job breaks the assumption
     AcceptedEnded,
 }

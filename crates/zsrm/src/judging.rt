@@ -1,14 +1,14 @@
 // Document 01, verdicts, witnesses, and the part of the caller's schedule that is shown.
 ghost use mathlib.Core.Path.{_≡_};
 ghost use mathlib.Core.Bool.{cond, true};
-ghost use Prim.Native.Nat.{_-_, _<_};
+ghost use Prim.Native.Nat.{_-_, _<_, _≤_};
 ghost use lib.ListN.{length};
 ghost use Rattle.zsrm.specs.declared.answers.Verdict.{Verdict};
 ghost use Rattle.tables.specs.Refusals.{before, check13, unless};
-ghost use Rattle.tables.specs.Tables.{arrival, deadlineInstant, lists};
+ghost use Rattle.tables.specs.Tables.{arrival, deadlineInstant, jobCount, lists};
 ghost use Rattle.zsrm.specs.Record.{standingAt};
 ghost use Rattle.zsrm.specs.Code.Claims.{FitsIn};
-ghost use Rattle.zsrm.specs.Verdict.{judged, verdict, blamed, answered, partTo, shownBy, Shows};
+ghost use Rattle.zsrm.specs.Verdict.{judged, verdict, missed, blamed, breaks, outsider, answered, partTo, shownBy, Shows};
 ghost use Rattle.zsrm.specs.Given.{given};
 ghost use Rattle.zsrm.specs.Answers.{checkVerdict, checkWitness, verdictAnswer, verdictsAnswer, witnessAnswer, responseAnswer};
 use crate::answers::Judged;
@@ -26,8 +26,11 @@ use tables::Outcome;
 use tables::before;
 use tables::check_lists;
 use tables::check13;
+use tables::criticality_of;
 use tables::deadline_instant;
 use tables::job_at;
+use tables::job_count;
+use tables::nominal_of;
 
 // One verdict or the other.
 fn either(test: bool, passes: Verdict, fails: Verdict) -> Verdict
@@ -163,14 +166,59 @@ fn blame(verdict: Verdict) -> Witness
     }
 }
 
-// The answers to a witness, in order; `ticks` is the length of the schedule's legal beginning.
-fn answer(legal: bool, ticks: u32, verdict: Verdict) -> Witness
-    ensures { λ r. ⌜ r ≡ answered legal ticks verdict ⌝ }
+// Missed means late or ended.
+fn is_missed(verdict: Verdict) -> bool
+    ensures { λ r. ⌜ r ≡ missed verdict ⌝ }
 {
-    if legal {
+    match verdict {
+        Verdict::Refused(_, _) => false,
+        Verdict::Met => false,
+        Verdict::Late(_, _) => true,
+        Verdict::Ended => true,
+        Verdict::Open => false,
+    }
+}
+
+// Whether job i breaks the assumption for job j: it is strictly more critical, and its c exceeds its C.
+fn is_breaking(i: u32, j: u32, tasks: &[u32], jobs: &[u32]) -> bool
+    ensures { λ r. ⌜ r ≡ breaks (lists (now (tasks .entry)) (now (jobs .entry))) j i ⌝ }
+{
+    let job = job_at(jobs, i);
+    let named = criticality_of(tasks, jobs, j);
+    criticality_of(tasks, jobs, i).exceeds(named) & (nominal_of(tasks, jobs, i) < job.execution)
+}
+
+// The first job that breaks the assumption for job j, or the number of jobs: from the last job down, so that the lowest stays.
+fn first_breaking(j: u32, tasks: &[u32], jobs: &[u32]) -> u32
+    requires { ⌜ jobCount (now jobs) ≤ 64 ⌝ }
+    ensures { λ r. ⌜ r ≡ outsider (lists (now (tasks .entry)) (now (jobs .entry))) j ⌝ }
+{
+    let n = job_count(jobs);
+    let mut first = n;
+    let mut i = n;
+    while 0 < i {
+        i -= 1;
+        if is_breaking(i as u32, j, tasks, jobs) {
+            first = i;
+        }
+    }
+    first as u32
+}
+
+// The answers to a witness, in order; `ticks` is the length of the schedule's legal beginning, `first` the job to be named where the
+// witness is outside the assumption. "Not missed" has a branch of its own, so that the order reads as document 01's.
+fn answer(legal: bool, ticks: u32, outside: bool, first: u32, verdict: Verdict) -> Witness
+    ensures { λ r. ⌜ r ≡ answered legal ticks outside first verdict ⌝ }
+{
+    let missed = is_missed(verdict);
+    if !legal {
+        Witness::NotLegal(ticks)
+    } else if outside {
+        Witness::Outside(first)
+    } else if missed {
         blame(verdict)
     } else {
-        Witness::NotLegal(ticks)
+        Witness::NotMissed
     }
 }
 
@@ -184,7 +232,7 @@ fn check_witness(tasks: &[u32], jobs: &[u32], horizon: u32, entries: usize, j: u
     )
 }
 
-// Whether a claimed schedule is a witness that the job missed; refusals 2 to 10, 13.
+// Whether a claimed schedule is a witness that the job missed though every strictly more critical job keeps to its C; refusals 2 to 10, 13.
 pub fn witness(
     mode: Mode,
     tasks: &[u32],
@@ -202,7 +250,15 @@ pub fn witness(
             let record = replayed.record;
             let ticks = replayed.ticks;
             let verdict = judge_at(record, tasks, jobs, job);
-            answer((ticks as usize) == schedule.len(), ticks, verdict)
+            let first = first_breaking(job, tasks, jobs);
+            let outside = (first as usize) < job_count(jobs);
+            answer(
+                (ticks as usize) == schedule.len(),
+                ticks,
+                outside,
+                first,
+                verdict,
+            )
         }
         Outcome::Refused(number, place) => Witness::Refused(number, place),
     }

@@ -2,7 +2,7 @@
 use Prim.Native.Nat.{_+_, _-_, _<_, suc, zero, ℕ, _≤_}
 use mathlib.Core.Bool.{Bool, true}
 use mathlib.Core.List.{List, [], _∷_}
-use mathlib.Core.Logic.{_↔_}
+use mathlib.Core.Logic.{Iff·trans, _↔_}
 use mathlib.Core.Path.{ap, refl, subst, sym, _∙_, _≡_}
 use native.Mathlib.Nat.{not-suc-le-zero}
 use native.Mathlib.Numerals.{add-one}
@@ -37,7 +37,7 @@ use Rattle.zsrm.proofs.Laws.Places.{tick-fresh}
 use Rattle.tables.proofs.Laws.Refusals.{before-first, unless-done, unless-refused}
 use Rattle.zsrm.proofs.Laws.Said.{verdict-said, witness-said}
 use Rattle.zsrm.proofs.Laws.Verdicts.{part-fits, replayed-consistent, witnessed}
-use Rattle.zsrm.proofs.Readings.{witness-reads}
+use Rattle.zsrm.proofs.Readings.{FirstOutside, Within, witness-reads}
 use Rattle.zsrm.proofs.Laws.Run.{choice-may}
 use Rattle.tables.proofs.Laws.Accepted.{lists-few}
 use Rattle.tables.proofs.Laws.Said.{outcome-said}
@@ -141,12 +141,13 @@ module _ (g : Given) (horizon : ℕ) (schedule : List ℕ) (legal : claimSaid (c
     unfolding witnessAnswer
     witness-taken = unless-done _ _ (checkWitness (g .lists) horizon (length schedule) j) checked-job
 
-    -- a job that is judged met is not missed
-    pub met-not-missed : verdictSaid (verdictAnswer g (replayed g schedule) j) ≡ say.met → witnessSaid (witnessAnswer g horizon schedule j) ≡ say.notMissed
+    -- within the assumption a job that is judged met is not missed
+    pub met-not-missed : Within g j → verdictSaid (verdictAnswer g (replayed g schedule) j) ≡ say.met
+        → witnessSaid (witnessAnswer g horizon schedule j) ≡ say.notMissed
     unfolding verdictSaid witnessSaid
-    met-not-missed h =
+    met-not-missed w h =
         let met : verdict (g .lists) (replayed g schedule) j ≡ verdicts.Met = sym taken ∙ verdict-said (verdictAnswer g (replayed g schedule) j) verdicts.Met h in
-        ap witnessSaid (witness-taken ∙ witness-reads g schedule j witnesses.NotMissed .1 (whole-legal g schedule .1 (is-legal g horizon schedule legal .legal), ap missed met))
+        ap witnessSaid (witness-taken ∙ witness-reads g schedule j witnesses.NotMissed .1 (whole-legal g schedule .1 (is-legal g horizon schedule legal .legal), w, ap missed met))
 
     -- the part that is shown of a finished job
     shown : (f : ℕ) → standingAt (replayed g schedule) j ≡ Finished f
@@ -175,49 +176,64 @@ module _ (g : Given) (horizon : ℕ) (schedule : List ℕ) (legal : claimSaid (c
         rw (shown f q) (getD-take (f - arrival (g .lists .jobs) j) (drop (arrival (g .lists .jobs) j) schedule) i idle (omega arith)
         ∙ getD-drop (arrival (g .lists .jobs) j) schedule i idle)
 
--- a witness is accepted against a job exactly where its schedule is legal and the job has that verdict in it; w is what is answered for v
+-- what is answered to a witness whose schedule is legal: w exactly where the claim is legal, the job is in the list, and A holds
 module _ (g : Given) (horizon : ℕ) (schedule : List ℕ) (j : ℕ) where
-  within : checkWitness (g .lists) horizon (length schedule) j ≡ Done → checkSchedule (g .lists) horizon (length schedule) ≡ Done
+  its-schedule : checkWitness (g .lists) horizon (length schedule) j ≡ Done → checkSchedule (g .lists) horizon (length schedule) ≡ Done
   unfolding checkWitness
-  within ok = before-first (checkSchedule (g .lists) horizon (length schedule)) (check13 (g .lists .jobs) j) ok
+  its-schedule ok = before-first (checkSchedule (g .lists) horizon (length schedule)) (check13 (g .lists .jobs) j) ok
 
-  Blames : Witness → Verdict → Type 0
-  Blames w v = witness g schedule j ≡ w ↔ (claim g schedule ≡ claims.Legal) × (verdict (g .lists) (replayed g schedule) j ≡ v)
-
-  accepted-exactly : (w : Witness) (v : Verdict) → ((number place : ℕ) → witnesses.Refused number place ≡ w → ⊥) → Blames w v
-      → witnessSaid (witnessAnswer g horizon schedule j) ≡ witnessSaid w
-      ↔ (claimSaid (claimAnswer g horizon schedule) ≡ say.legal) × (j < jobCount (g .lists .jobs)) × (verdictSaid (verdictAnswer g (replayed g schedule) j) ≡ verdictSaid v)
-  unfolding Blames witnessSaid witnessAnswer claimSaid claimAnswer verdictSaid
-  accepted-exactly w v never blames = (there, back)
+  legal-answer : (w : Witness) (A : Type 0) → ((number place : ℕ) → witnesses.Refused number place ≡ w → ⊥)
+      → (witness g schedule j ≡ w ↔ (claim g schedule ≡ claims.Legal) × A)
+      → witnessSaid (witnessAnswer g horizon schedule j) ≡ witnessSaid w ↔ (claimSaid (claimAnswer g horizon schedule) ≡ say.legal) × (j < jobCount (g .lists .jobs)) × A
+  unfolding witnessSaid witnessAnswer claimSaid claimAnswer
+  legal-answer w A never means = (there, back)
     where
-      there : witnessSaid (witnessAnswer g horizon schedule j) ≡ witnessSaid w
-          → (claimSaid (claimAnswer g horizon schedule) ≡ say.legal) × (j < jobCount (g .lists .jobs)) × (verdictSaid (verdictAnswer g (replayed g schedule) j) ≡ verdictSaid v)
+      there : witnessSaid (witnessAnswer g horizon schedule j) ≡ witnessSaid w → (claimSaid (claimAnswer g horizon schedule) ≡ say.legal) × (j < jobCount (g .lists .jobs)) × A
       there h =
           let x = answered witnesses.Refused (witness g schedule j) w never (checkWitness (g .lists) horizon (length schedule) j) .0
           (witness-said (witnessAnswer g horizon schedule j) w h) in
-          let l : j < jobCount (g .lists .jobs) = witnessed (g .lists) horizon (length schedule) j (x .0) .named .job in
-          let a = blames .0 (x .1) in
-          let legal : claimSaid (claimAnswer g horizon schedule) ≡ say.legal =
-          ap claimSaid (unless-done claims.Refused (claim g schedule) (checkSchedule (g .lists) horizon (length schedule)) (within (x .0)) ∙ a .0) in
-          (legal, l, ap verdictSaid (taken g horizon schedule legal j l ∙ a .1))
+          let a = means .0 (x .1) in (
+            ap claimSaid (unless-done claims.Refused (claim g schedule) (checkSchedule (g .lists) horizon (length schedule)) (its-schedule (x .0)) ∙ a .0),
+            witnessed (g .lists) horizon (length schedule) j (x .0) .named .job,
+            a .1,
+          )
 
-      back : (claimSaid (claimAnswer g horizon schedule) ≡ say.legal) × (j < jobCount (g .lists .jobs)) × (verdictSaid (verdictAnswer g (replayed g schedule) j) ≡ verdictSaid v)
-          → witnessSaid (witnessAnswer g horizon schedule j) ≡ witnessSaid w
+      back : (claimSaid (claimAnswer g horizon schedule) ≡ say.legal) × (j < jobCount (g .lists .jobs)) × A → witnessSaid (witnessAnswer g horizon schedule j) ≡ witnessSaid w
       back m =
-          ap witnessSaid (witness-taken g horizon schedule (m .0) j (m .1) ∙ blames .1 (
-            whole-legal g schedule .1 (is-legal g horizon schedule (m .0) .legal),
-            sym (taken g horizon schedule (m .0) j (m .1)) ∙ verdict-said (verdictAnswer g (replayed g schedule) j) v (m .2),
-          ))
+          ap witnessSaid (witness-taken g horizon schedule (m .0) j (m .1) ∙ means .1 (whole-legal g schedule .1 (is-legal g horizon schedule (m .0) .legal), m .2))
+
+  pub outside-answered : (i : ℕ) → witnessSaid (witnessAnswer g horizon schedule j) ≡ say.outside i
+      ↔ (claimSaid (claimAnswer g horizon schedule) ≡ say.legal) × (j < jobCount (g .lists .jobs)) × FirstOutside g j i
+  unfolding witnessSaid
+  outside-answered i =
+      legal-answer (witnesses.Outside i) (FirstOutside g j i) (λ n p e. let z : _≡_ {A = ℕ} 0 1 = cc in omega arith)
+      (witness-reads g schedule j (witnesses.Outside i))
+
+  -- it is accepted where the witness is within the assumption and the job has the verdict v in the schedule; w is what is answered for v
+  Blames : Witness → Verdict → Type 0
+  Blames w v = witness g schedule j ≡ w ↔ (claim g schedule ≡ claims.Legal) × Within g j × (verdict (g .lists) (replayed g schedule) j ≡ v)
+
+  accepted-exactly : (w : Witness) (v : Verdict) → ((number place : ℕ) → witnesses.Refused number place ≡ w → ⊥) → Blames w v
+      → witnessSaid (witnessAnswer g horizon schedule j) ≡ witnessSaid w
+      ↔ (claimSaid (claimAnswer g horizon schedule) ≡ say.legal) × (j < jobCount (g .lists .jobs)) × Within g j × (verdictSaid (verdictAnswer g (replayed g schedule) j) ≡ verdictSaid v)
+  unfolding Blames
+  accepted-exactly w v never blames =
+      Iff·trans
+      (legal-answer w (Within g j × (verdict (g .lists) (replayed g schedule) j ≡ v)) never
+      (Iff·trans blames (λ m. (m .0, (m .1, m .2)), λ m. (m .0, m .1 .0, m .1 .1)))) (
+        λ m. (m .0, m .1, m .2 .0, ap verdictSaid (taken g horizon schedule (m .0) j (m .1) ∙ m .2 .1)),
+        λ m. (m .0, m .1, (m .2, sym (taken g horizon schedule (m .0) j (m .1)) ∙ verdict-said (verdictAnswer g (replayed g schedule) j) v (m .3))),
+      )
 
   pub late-accepted : (n : ℕ) (isExact : Bool) → witnessSaid (witnessAnswer g horizon schedule j) ≡ say.acceptedLate n isExact
-      ↔ (claimSaid (claimAnswer g horizon schedule) ≡ say.legal) × (j < jobCount (g .lists .jobs)) × (verdictSaid (verdictAnswer g (replayed g schedule) j) ≡ say.late n isExact)
+      ↔ (claimSaid (claimAnswer g horizon schedule) ≡ say.legal) × (j < jobCount (g .lists .jobs)) × Within g j × (verdictSaid (verdictAnswer g (replayed g schedule) j) ≡ say.late n isExact)
   unfolding Blames witnessSaid verdictSaid
   late-accepted n isExact =
       accepted-exactly (witnesses.AcceptedLate n isExact) (verdicts.Late n isExact) (λ n p e. let z : _≡_ {A = ℕ} 0 1 = cc in omega arith)
       (witness-reads g schedule j (witnesses.AcceptedLate n isExact))
 
   pub ended-accepted : witnessSaid (witnessAnswer g horizon schedule j) ≡ say.acceptedEnded
-      ↔ (claimSaid (claimAnswer g horizon schedule) ≡ say.legal) × (j < jobCount (g .lists .jobs)) × (verdictSaid (verdictAnswer g (replayed g schedule) j) ≡ say.ended)
+      ↔ (claimSaid (claimAnswer g horizon schedule) ≡ say.legal) × (j < jobCount (g .lists .jobs)) × Within g j × (verdictSaid (verdictAnswer g (replayed g schedule) j) ≡ say.ended)
   unfolding Blames witnessSaid verdictSaid
   ended-accepted =
       accepted-exactly witnesses.AcceptedEnded verdicts.Ended (λ n p e. let z : _≡_ {A = ℕ} 0 1 = cc in omega arith)

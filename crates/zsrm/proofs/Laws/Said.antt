@@ -16,13 +16,13 @@ use Rattle.zsrm.specs.declared.answers.Verdict.the-variants as verdicts
 use Rattle.zsrm.specs.declared.answers.Witness.the-variants as witnesses
 use Rattle.zsrm.specs.declared.record.Standing.the-variants as standings
 
--- two numbers are a refusal; one number is read by its own table, and so are three, which say by how much a job is late
-module _ {A : Type 0} (refused : ℕ → ℕ → A) (one : ℕ → A) (late : ℕ → Bool → A) where
+-- two numbers are a refusal; one number is read by its own table, and so are three, the last of which may be a flag
+module _ {A : Type 0} (refused : ℕ → ℕ → A) (one : ℕ → A) (three : ℕ → ℕ → Bool → A) where
   back : List ℕ → A
   back [] = one 0
   back (x ∷ []) = one x
   back (n ∷ p ∷ []) = refused n p
-  back (x ∷ by ∷ isExact ∷ rest) = late by (eqb isExact 1)
+  back (x ∷ y ∷ z ∷ rest) = three x y (eqb z 1)
 
 -- what can be read back is told apart
 told : {A : Type 0} (said : A → List ℕ) (read : List ℕ → A) → ((a : A) → read (said a) ≡ a) → (a b : A) → said a ≡ said b → a ≡ b
@@ -36,7 +36,7 @@ unfolding notLegalOr
 not-legal-back notLegal small t = rw (le-ltb (65536 + t) 65536 (omega arith)) (ap notLegal (omega arith))
 
 claimOf : List ℕ → Claim
-claimOf = back claims.Refused (notLegalOr claims.NotLegal (λ x. claims.Legal)) (λ by isExact. claims.Legal)
+claimOf = back claims.Refused (notLegalOr claims.NotLegal (λ x. claims.Legal)) (λ x y z. claims.Legal)
 
 pub claim-said : (a b : Claim) → claimSaid a ≡ claimSaid b → a ≡ b
 unfolding claimSaid claimOf back notLegalOr
@@ -48,7 +48,7 @@ claim-said = told claimSaid claimOf again
     again (claims.NotLegal t) = not-legal-back claims.NotLegal (λ x. claims.Legal) t
 
 verdictOf : List ℕ → Verdict
-verdictOf = back verdicts.Refused (λ x. cond (eqb x 0) verdicts.Met (cond (eqb x 2) verdicts.Ended verdicts.Open)) verdicts.Late
+verdictOf = back verdicts.Refused (λ x. cond (eqb x 0) verdicts.Met (cond (eqb x 2) verdicts.Ended verdicts.Open)) (λ x. verdicts.Late)
 
 pub verdict-said : (a b : Verdict) → verdictSaid a ≡ verdictSaid b → a ≡ b
 unfolding verdictSaid verdictOf back
@@ -63,7 +63,9 @@ verdict-said = told verdictSaid verdictOf again
     again verdicts.Open = refl
 
 witnessOf : List ℕ → Witness
-witnessOf = back witnesses.Refused (notLegalOr witnesses.NotLegal (λ x. cond (eqb x 1) witnesses.NotMissed witnesses.AcceptedEnded)) witnesses.AcceptedLate
+witnessOf =
+    back witnesses.Refused (notLegalOr witnesses.NotLegal (λ x. cond (eqb x 1) witnesses.NotMissed witnesses.AcceptedEnded))
+    (λ x y z. cond (eqb x 3) (witnesses.Outside y) (witnesses.AcceptedLate y z))
 
 pub witness-said : (a b : Witness) → witnessSaid a ≡ witnessSaid b → a ≡ b
 unfolding witnessSaid witnessOf back notLegalOr
@@ -72,6 +74,7 @@ witness-said = told witnessSaid witnessOf again
     again : (a : Witness) → witnessOf (witnessSaid a) ≡ a
     again (witnesses.Refused n p) = refl
     again (witnesses.NotLegal t) = not-legal-back witnesses.NotLegal (λ x. cond (eqb x 1) witnesses.NotMissed witnesses.AcceptedEnded) t
+    again (witnesses.Outside i) = refl
     again witnesses.NotMissed = refl
     again (witnesses.AcceptedLate by true) = refl
     again (witnesses.AcceptedLate by false) = refl

@@ -26,6 +26,7 @@ use Rattle.tables.proofs.Laws.Accepted.{apart, few-jobs, job, task}
 use Rattle.zsrm.proofs.Laws.Consistent.{Sound, advanced-consistent, fresh-consistent, sound-at}
 use Rattle.zsrm.proofs.Laws.Places.{done-advanced, done-fresh, standing-advanced, standing-fresh, tick-advanced, tick-fresh, alive-unfinished, opens}
 use Rattle.zsrm.proofs.Laws.Replay.{kept-at, legal-may, tick-replay, AllLegal}
+use Rattle.zsrm.proofs.Readings.{Within}
 use Rattle.zsrm.proofs.Laws.Tick.{dispatch-serves, done-idle, done-ran, ends-by, goes-on, past-exactly}
 
 -- on its way to that instant, by its standing at the tick t
@@ -71,6 +72,13 @@ module _ (g : Given) (k : ℕ) (okTasks : checkTasks (g .lists .tasks) ≡ Done)
           let less : jobCriticality (g .lists) i < jobCriticality (g .lists) j = rw (o .its) (top .above _ (job (g .lists .tasks) (g .lists .jobs) okJobs i l .known) q) in
           absurd (omega arith)
 
+  none-more : (i j : ℕ) → i < jobCount (g .lists .jobs) → Own j → jobCriticality (g .lists) j < jobCriticality (g .lists) i → ⊥
+  none-more i j l o c = omega (arith, c, own-again i j l o (omega (arith, c)) .1)
+
+  -- so a witness against an own job is within the assumption
+  pub topmost-within : (j : ℕ) → Own j → Within g j
+  topmost-within j o i l c = absurd (none-more i j l o c)
+
   -- two own jobs lie T apart
   own-apart : (i j : ℕ) → Own i → Own j → i < j → arrival (g .lists .jobs) i + period (g .lists .tasks) k ≤ arrival (g .lists .jobs) j
   own-apart i j oi oj l = rw (oj .its) at (apart (g .lists .tasks) (g .lists .jobs) okJobs i j l (oj .job) (oi .its ∙ sym (oj .its)))
@@ -108,7 +116,7 @@ module _ (g : Given) (k : ℕ) (okTasks : checkTasks (g .lists .tasks) ≡ Done)
       -- an own job is never ended
       never-ends : ends g r e j ≡ false
       never-ends =
-          fails _ (λ x. let w = ends-by g r e j x in omega (arith, w .1 .more, own-again (w .0) j (w .1 .job) o (omega (arith, w .1 .more)) .1))
+          fails _ (λ x. let w = ends-by g r e j x in none-more (w .0) j (w .1 .job) o (w .1 .more))
 
       -- where the tick has come to zero slack plus what is done, it is the job's own
       runs-now : alive r j ≡ true → r .tick ≡ zeroSlackInstant (g .lists) j + doneAt r j → e ≡ j

@@ -1,13 +1,13 @@
 -- Verdicts and witnesses as the code comes to them: what the checks say of the job named, what a replay says of a witness, all verdicts at
 -- once; and when a job that is alive finishes.
 use Prim.Native.Nat.{_+_, _<_, suc, ℕ, _≤_}
-use mathlib.Core.Bool.{Bool, false, true}
+use mathlib.Core.Bool.{Bool, false, true, not}
 use mathlib.Core.List.{List, [], _∷_}
 use mathlib.Core.Path.{ap, ap₂, refl, subst, sym, _∙_, _≡_}
 use native.Mathlib.Omega.{arith}
 use lib.Dec.{ltb, eqb}
 use lib.ListN.{length}
-use borrow.Author.Tests.{eqb-true, ltb-true, not-false}
+use borrow.Author.Tests.{eqb-true, ltb-true, not-false, not-true}
 use Rattle.bits.proofs.Arrays.{Written, written-all}
 use Rattle.bits.proofs.Below.{list-same}
 use Rattle.tables.specs.declared.outcome.Outcome.{Outcome}
@@ -28,8 +28,9 @@ use Rattle.zsrm.specs.Record.{consistent, doneAt, fresh, standingAt, che
 use Rattle.tables.specs.Refusals.{before, check13, checkLists, unless}
 use Rattle.zsrm.specs.Run.{replay, replayed, recordBefore}
 use Rattle.zsrm.specs.Tick.{advanced, alive, standingAfter, unfinished}
-use Rattle.zsrm.specs.Verdict.{answered, part, partTo, shownBy, verdict, witness}
+use Rattle.zsrm.specs.Verdict.{answered, part, partTo, shownBy, verdict, witness, blamed, isOutside, missed, outsider}
 use Rattle.zsrm.proofs.Laws.Answers.{Accepted, accepted}
+use Rattle.zsrm.proofs.Laws.Assumption.{named-outside}
 use Rattle.zsrm.proofs.Laws.Consistent.{Sound, advanced-consistent, fresh-consistent, sound-at}
 use Rattle.bits.proofs.Bools.{clash}
 use Rattle.zsrm.proofs.Laws.Places.{standing-advanced, standing-alive, tick-advanced, tick-fresh}
@@ -37,8 +38,10 @@ use Rattle.zsrm.proofs.Laws.Tick.{goes-on}
 use Rattle.tables.proofs.Laws.Refusals.{before-first, before-second, refuse-fine}
 use Rattle.zsrm.proofs.Laws.Replay.{kept-at, legal-may, replayed-is, tick-replay, AllLegal}
 use Rattle.tables.proofs.Laws.Accepted.{lists-few}
+use Rattle.zsrm.proofs.Readings.{spared}
 use Rattle.zsrm.specs.Legal.{isLegal, legalLength}
 use Rattle.zsrm.specs.declared.answers.Verdict.the-variants as verdicts
+use Rattle.zsrm.specs.declared.answers.Witness.the-variants as witnesses
 
 -- a job that the list has
 pub record Named (l : Lists) (j : ℕ) : Type 0 where
@@ -77,21 +80,44 @@ witnessed l horizon entries j ok =
       limit = omega (arith, a .bounded, a .whole);
     }
 
--- a replay answers the witness: where it is legal its record is the one replayed, and elsewhere the verdict does not matter
-pub witness-answer : (g : Given) (schedule : List ℕ) (j : ℕ) (x : Replayed) (v : Verdict) (w : Witness)
-    → ReplayedAs g schedule x → v ≡ verdict (g .lists) (x .«record») j → w ≡ answered (eqb (x .ticks) (length schedule)) (x .ticks) v
-    → w ≡ witness g schedule j
+-- the answers to a witness in their order, as the code's tests come to them
+module _ (legal : Bool) (n : ℕ) (outside : Bool) (i : ℕ) (v : Verdict) where
+  pub answers-illegal : not legal ≡ true → witnesses.NotLegal n ≡ answered legal n outside i v
+  answers-illegal h = rw (not-true legal h)
+
+  pub answers-outside : not legal ≡ false → outside ≡ true → witnesses.Outside i ≡ answered legal n outside i v
+  answers-outside h o = rw (not-false legal h, o)
+
+  pub answers-within : not legal ≡ false → outside ≡ false → blamed v ≡ answered legal n outside i v
+  answers-within h o = rw (not-false legal h, o)
+
+  pub answers-spared : not legal ≡ false → outside ≡ false → missed v ≡ false → witnesses.NotMissed ≡ answered legal n outside i v
+  answers-spared h o m = sym (spared v m) ∙ answers-within h o
+
+-- a replay answers the witness: where it is legal its record is the one replayed, and elsewhere the verdict does not matter; i and m are
+-- the first job that breaks the assumption and the number of jobs
+pub witness-answer : (g : Given) (schedule : List ℕ) (j : ℕ) (x : Replayed) (v : Verdict) (i m : ℕ) (w : Witness)
+    → ReplayedAs g schedule x → v ≡ verdict (g .lists) (x .«record») j → i ≡ outsider (g .lists) j → m ≡ jobCount (g .lists .jobs)
+    → w ≡ answered (eqb (x .ticks) (length schedule)) (x .ticks) (ltb i m) i v → w ≡ witness g schedule j
 unfolding witness isLegal
-witness-answer g schedule j x v w p qv qw =
-    qw ∙ ap (λ (n : ℕ). answered (eqb n (length schedule)) n v) (p .ticks) ∙ go (eqb (legalLength g schedule) (length schedule)) refl
+witness-answer g schedule j x v i m w p qv qi qm qw =
+    qw ∙ ap (λ (n : ℕ). answered (eqb n (length schedule)) n (ltb i m) i v) (p .ticks)
+    ∙ ap₂ (λ (o : Bool) (k : ℕ). answered (eqb n (length schedule)) n o k v) (ap₂ ltb qi qm ∙ named-outside (g .lists) j) qi
+    ∙ go (eqb n (length schedule)) refl
   where
     n : ℕ
     n = legalLength g schedule
 
-    go : (k : Bool) → eqb n (length schedule) ≡ k → answered k n v ≡ answered k n (verdict (g .lists) (replayed g schedule) j)
+    o : Bool
+    o = isOutside (g .lists) j
+
+    k : ℕ
+    k = outsider (g .lists) j
+
+    go : (b : Bool) → eqb n (length schedule) ≡ b → answered b n o k v ≡ answered b n o k (verdict (g .lists) (replayed g schedule) j)
     go false e = refl
     go true e =
-        ap (answered true n) (qv ∙ ap (λ (r : Record). verdict (g .lists) r j) (p .ends (eqb-true n (length schedule) e)))
+        ap (answered true n o k) (qv ∙ ap (λ (r : Record). verdict (g .lists) r j) (p .ends (eqb-true n (length schedule) e)))
 
 -- the record before each tick of a legal schedule, and the one at its end, is consistent
 pub legal-consistent : (g : Given) (schedule : List ℕ) → length schedule ≤ 16384 → AllLegal g (fresh (g .lists .jobs)) idle schedule → (t : ℕ) → consistent g (recordBefore g schedule t) ≡ true

@@ -19,11 +19,17 @@ judge-at-requires c κs =
     let w = witnessed _ _ _ _ (sym (x .before .before .check-witness .ensures) ∙ x .enum-told .given .1) in
     omega (arith, w .named .job, w .named .few)
 
+first-breaking-requires : tie.Need-first-breaking-requires
+first-breaking-requires c κs =
+    let x = c .before .before .before in
+    witnessed _ _ _ _ (sym (x .before .before .check-witness .ensures) ∙ x .enum-told .given .1) .named .few
+
 returns : tie.Need-returns
 unfolding witnessAnswer
 returns c =
-    let x = c .before .before .before in
-    witness-answer _ _ _ _ _ _ (x .replay .ensures) (c .before .judge-at .ensures) (c .answer .ensures)
+    let y = c .before .before in
+    let x = y .before .before .before in
+    witness-answer _ _ _ _ _ _ _ _ (x .replay .ensures) (y .before .judge-at .ensures) (y .first-breaking .ensures) (c .before .job-count .ensures) (c .answer .ensures)
     ∙ sym (unless-done _ _ _ (sym (x .before .before .before .check-witness .ensures) ∙ x .before .enum-told .given .1))
 
 returns-2 : tie.Need-returns-2
@@ -33,5 +39,5 @@ returns-2 c = sym (unless-refused _ _ _ _ _ (sym (c .before .before .before .che
 pub witness-spec : {M : Type 1} → statement M
 witness-spec =
     tie.close
-    (tie.spec (λ c κs. search needs) (λ c. search needs) replay-requires judge-at-requires (λ c. search needs) (λ c κs. search needs)
-    (λ c. search needs) returns returns-2)
+    (tie.spec (λ c κs. search needs) (λ c. search needs) replay-requires judge-at-requires first-breaking-requires (λ c. search needs) (λ c κs. search needs)
+    (λ c. search needs) (λ c κs. search needs) (λ c. search needs) returns returns-2)
