@@ -121,6 +121,7 @@ struct job {
     int criticality, priority;
     enum standing standing;
     uint32_t done, instant; /* instant: at which it finished, or the tick in which it was ended */
+    uint32_t suspended, waited;
 };
 
 struct state {
@@ -158,6 +159,8 @@ static void start(struct state *s, uint32_t mode, const uint8_t *tasks, const ui
         job->standing = NOT_ARRIVED;
         job->done = 0;
         job->instant = 0;
+        job->suspended = 0;
+        job->waited = 0;
     }
     arrive(s);
 }
@@ -218,8 +221,23 @@ static void end_jobs(struct state *s, uint32_t entry) {
     }
 }
 
+/* What the tick costs the alive jobs that do not run in it: whoever is below the floor is suspended,
+   and of these are all that it ends; any other waits for the job that runs. */
+static void lose_tick(struct state *s, struct choice c, uint32_t entry) {
+    for (uint32_t j = 0; j < s->count; j++) {
+        struct job *job = &s->jobs[j];
+        if (job->standing != ALIVE || j == entry)
+            continue;
+        if (job->criticality < c.floor)
+            job->suspended++;
+        else
+            job->waited++;
+    }
+}
+
 /* One tick with this entry, which is a candidate, or idle. */
-static void advance(struct state *s, uint32_t entry) {
+static void advance(struct state *s, struct choice c, uint32_t entry) {
+    lose_tick(s, c, entry);
     if (s->ends)
         end_jobs(s, entry);
     s->tick++;
@@ -251,8 +269,7 @@ static int may_change(const struct state *s, uint32_t before) {
     return s->tick == 0 || is_instant(s, before);
 }
 
-static int is_legal(const struct state *s, uint32_t before, uint32_t entry) {
-    struct choice c = choices(s);
+static int is_legal(const struct state *s, struct choice c, uint32_t before, uint32_t entry) {
     if (entry == IDLE ? c.top >= 0 : entry >= s->count || !is_candidate(&s->jobs[entry], c))
         return 0;
     return entry == before || may_change(s, before);
@@ -268,9 +285,10 @@ uint32_t sim_run(uint32_t mode, const uint8_t *tasks, size_t tasks_len, const ui
         return no;
     start(&s, mode, tasks, jobs, jobs_len);
     while (s.tick < horizon) {
-        uint32_t entry = lowest_candidate(&s, choices(&s));
+        struct choice c = choices(&s);
+        uint32_t entry = lowest_candidate(&s, c);
         put_entry(schedule, s.tick, entry);
-        advance(&s, entry);
+        advance(&s, c, entry);
     }
     return 0;
 }
@@ -285,10 +303,11 @@ uint32_t sim_claim(uint32_t mode, const uint8_t *tasks, size_t tasks_len, const 
         return no;
     start(&s, mode, tasks, jobs, jobs_len);
     while (s.tick < horizon) {
+        struct choice c = choices(&s);
         uint32_t entry = entry_at(schedule, s.tick);
-        if (!is_legal(&s, before, entry))
+        if (!is_legal(&s, c, before, entry))
             return NOT_LEGAL + s.tick;
-        advance(&s, entry);
+        advance(&s, c, entry);
         before = entry;
     }
     return 0;
@@ -297,7 +316,7 @@ uint32_t sim_claim(uint32_t mode, const uint8_t *tasks, size_t tasks_len, const 
 /* ---- Verdicts ---- */
 
 static struct sim_fate fate_of(const struct state *s, const struct job *job) {
-    struct sim_fate fate = {SIM_OPEN, 0, 0, 0};
+    struct sim_fate fate = {SIM_OPEN, 0, 0, 0, job->suspended, job->waited};
     if (job->standing == ENDED)
         fate.verdict = SIM_ENDED;
     else if (job->standing == FINISHED)
@@ -315,16 +334,18 @@ void sim_fates(uint32_t mode, const uint8_t *tasks, const uint8_t *jobs, size_t 
                uint32_t horizon, struct sim_fate *fates) {
     struct state s;
     start(&s, mode, tasks, jobs, jobs_len);
-    while (s.tick < horizon)
-        advance(&s, lowest_candidate(&s, choices(&s)));
+    while (s.tick < horizon) {
+        struct choice c = choices(&s);
+        advance(&s, c, lowest_candidate(&s, c));
+    }
     for (uint32_t j = 0; j < s.count; j++)
         fates[j] = fate_of(&s, &s.jobs[j]);
 }
 
 /* ---- For the random test ---- */
 
-static uint32_t drawn_candidate(const struct state *s, uint32_t (*draw)(uint32_t n)) {
-    struct choice c = choices(s);
+static uint32_t drawn_candidate(const struct state *s, struct choice c,
+                                uint32_t (*draw)(uint32_t n)) {
     uint32_t candidates[MOST_JOBS], n = 0;
     for (uint32_t j = 0; j < s->count; j++)
         if (is_candidate(&s->jobs[j], c))
@@ -338,9 +359,10 @@ void sim_draw(uint32_t mode, const uint8_t *tasks, const uint8_t *jobs, size_t j
     uint32_t before = IDLE;
     start(&s, mode, tasks, jobs, jobs_len);
     while (s.tick < horizon) {
-        uint32_t entry = may_change(&s, before) ? drawn_candidate(&s, draw) : before;
+        struct choice c = choices(&s);
+        uint32_t entry = may_change(&s, before) ? drawn_candidate(&s, c, draw) : before;
         put_entry(schedule, s.tick, entry);
-        advance(&s, entry);
+        advance(&s, c, entry);
         before = entry;
     }
 }

@@ -18,12 +18,14 @@ uint32_t sim_claim(uint32_t mode, const uint8_t *tasks, size_t tasks_len, const 
 enum sim_verdict { SIM_MET, SIM_LATE, SIM_ENDED, SIM_OPEN };
 
 /* What has become of a job. The instant is that at which it finished, or the tick in which it was
-   ended. A late job is late by so many ticks, exactly where it has finished, else at least. */
+   ended. A late job is late by so many ticks, exactly where it has finished, else at least. Of its
+   time it has been suspended so many ticks, and has waited so many while another job ran. */
 struct sim_fate {
     enum sim_verdict verdict;
     int has_instant;
     uint32_t instant;
     uint32_t late;
+    uint32_t suspended, waited;
 };
 
 /* What the run has made of each job at the horizon. */

@@ -18,7 +18,8 @@ struct text {
 };
 
 static struct {
-    unsigned long run, far, refused[REFUSALS], verdicts[4], exactly, at_least, none;
+    unsigned long run, far, refused[REFUSALS], verdicts[4], exactly, at_least;
+    unsigned long suspended, waited, both, none;
 } count;
 
 static const char *const verdict_words[4] = {"met", "late", "ended", "open"};
@@ -90,11 +91,15 @@ static void list_jobs(FILE *out, const struct lists *in) {
         count.verdicts[fates[j].verdict]++;
         count.exactly += late && known;
         count.at_least += late && !known;
+        count.suspended += fates[j].suspended > 0;
+        count.waited += fates[j].waited > 0;
+        count.both += fates[j].suspended > 0 && fates[j].waited > 0;
         fprintf(out, known ? "job %lu %s %lu" : "job %lu %s -", (unsigned long)j,
                 verdict_words[fates[j].verdict], (unsigned long)fates[j].instant);
         if (late)
             fprintf(out, known ? " =%lu" : " >=%lu", (unsigned long)fates[j].late);
-        fputc('\n', out);
+        fprintf(out, " %lu %lu\n", (unsigned long)fates[j].suspended,
+                (unsigned long)fates[j].waited);
     }
 }
 
@@ -350,6 +355,9 @@ static void show_counts(void) {
     }
     show_count("jobs late by an exact number", count.exactly);
     show_count("jobs late by at least a number", count.at_least);
+    show_count("jobs suspended in a tick", count.suspended);
+    show_count("jobs that waited in a tick", count.waited);
+    show_count("jobs that did both", count.both);
     for (size_t k = 0; k < sizeof numbers / sizeof *numbers; k++) {
         snprintf(what, sizeof what, "refused %d", numbers[k]);
         show_count(what, count.refused[numbers[k]]);

@@ -45,8 +45,8 @@
 
    The stack
    ---------
-   Over the benchmark's inputs a call of zsrm_run was measured to need 5,800 bytes of stack and one
-   of zsrm_claim 5,832; nothing recurses. host/run bench measures both again.
+   Over the benchmark's inputs a call of zsrm_run was measured to need 7,000 bytes of stack and one
+   of zsrm_claim 8,312; nothing recurses. host/run bench measures both again.
 
    An example
    ----------

@@ -6,14 +6,16 @@ use Rattle.bits.specs.Below.{count, every, greatest, least, listFrom, some}
 use Rattle.decimal.specs.Decimal.{asNumber, decimal, digits, leading, numberAt, size, spelled}
 use Rattle.sheet.specs.Grammar.{fieldAt, firstLine, numbersFrom, parsedOf}
 use Rattle.sheet.specs.Listing.{behindFirst, entry, givenListing, instant, jobLine, jobLines, lateness, line, listing, longest, longestFrom, printed, refusedLine, runLine, runListing, stretch, stretchLines, stretches, verdictLine, word}
-use Rattle.zsrm.specs.Record.{arrived, arriving, doneAt, fresh, freshPlace, opening, placeAt, standingAt}
+use Rattle.zsrm.specs.Record.{suspendedAt, waitedAt, arrived, arriving, doneAt, fresh, freshPlace, opening, placeAt, standingAt}
 use Rattle.tables.specs.Refusals.{ascending, before, check2, check3, check4, check5, check6, check7, check8, check9, checkJobs, checkLists, checkTasks, outside, preceding, refuse, unless}
 use Rattle.zsrm.specs.Run.{entriesBy, replay, runEntries, runRecord, finalBy}
 use Rattle.tables.specs.Tables.{arrival, criticality, deadline, deadlineInstant, execution, jobCount, jobCriticality, jobNominal, jobPriority, nominal, overload, period, priority, taskCount, taskOf, offset, zeroSlackInstant}
-use Rattle.zsrm.specs.Tick.{advanced, alive, candidate, choice, doneAfter, eligible, ends, finishes, goesOn, higherPriority, moreCritical, over, pastZeroSlack, placeAfter, someJob, standingAfter, suspended}
+use Rattle.zsrm.specs.Tick.{advanced, alive, candidate, choice, doneAfter, eligible, ends, finishes, goesOn, higherPriority, moreCritical, over, pastZeroSlack, placeAfter, someJob, standingAfter, suspended, suspendedAfter, waitedAfter, waits}
 use Rattle.zsrm.specs.Verdict.{verdict}
 use mathlib.Core.Bool.{false, true}
 use Rattle.zsrm.specs.declared.answers.Verdict.the-variants.{Late}
+use Rattle.zsrm.specs.declared.record.Place.{Place}
+use Rattle.zsrm.specs.declared.record.Standing.{Standing}
 use Rattle.zsrm.specs.declared.record.Standing.the-variants.{Finished, Unfinished}
 
 abbrev joined : List (List ℕ) → List ℕ
@@ -31,7 +33,7 @@ input =
     ∷ (48 ∷ 32 ∷ 56 ∷ 32 ∷ 52 ∷ 10 ∷ [])
     ∷ []
 
--- run S 16 / 0 4 0 / 4 8 1 / 8 10 2 / 10 11 1 / 11 13 2 / 13 16 - / job 0 met 4 / job 1 met 11 / job 2 met 13
+-- run S 16 / 0 4 0 / 4 8 1 / 8 10 2 / 10 11 1 / 11 13 2 / 13 16 - / job 0 met 4 0 0 / job 1 met 11 0 6 / job 2 met 13 1 0
 abbrev output : List (List ℕ)
 output =
     (114 ∷ 117 ∷ 110 ∷ 32 ∷ 83 ∷ 32 ∷ 49 ∷ 54 ∷ 10 ∷ [])
@@ -41,9 +43,9 @@ output =
     ∷ (49 ∷ 48 ∷ 32 ∷ 49 ∷ 49 ∷ 32 ∷ 49 ∷ 10 ∷ [])
     ∷ (49 ∷ 49 ∷ 32 ∷ 49 ∷ 51 ∷ 32 ∷ 50 ∷ 10 ∷ [])
     ∷ (49 ∷ 51 ∷ 32 ∷ 49 ∷ 54 ∷ 32 ∷ 45 ∷ 10 ∷ [])
-    ∷ (106 ∷ 111 ∷ 98 ∷ 32 ∷ 48 ∷ 32 ∷ 109 ∷ 101 ∷ 116 ∷ 32 ∷ 52 ∷ 10 ∷ [])
-    ∷ (106 ∷ 111 ∷ 98 ∷ 32 ∷ 49 ∷ 32 ∷ 109 ∷ 101 ∷ 116 ∷ 32 ∷ 49 ∷ 49 ∷ 10 ∷ [])
-    ∷ (106 ∷ 111 ∷ 98 ∷ 32 ∷ 50 ∷ 32 ∷ 109 ∷ 101 ∷ 116 ∷ 32 ∷ 49 ∷ 51 ∷ 10 ∷ [])
+    ∷ (106 ∷ 111 ∷ 98 ∷ 32 ∷ 48 ∷ 32 ∷ 109 ∷ 101 ∷ 116 ∷ 32 ∷ 52 ∷ 32 ∷ 48 ∷ 32 ∷ 48 ∷ 10 ∷ [])
+    ∷ (106 ∷ 111 ∷ 98 ∷ 32 ∷ 49 ∷ 32 ∷ 109 ∷ 101 ∷ 116 ∷ 32 ∷ 49 ∷ 49 ∷ 32 ∷ 48 ∷ 32 ∷ 54 ∷ 10 ∷ [])
+    ∷ (106 ∷ 111 ∷ 98 ∷ 32 ∷ 50 ∷ 32 ∷ 109 ∷ 101 ∷ 116 ∷ 32 ∷ 49 ∷ 51 ∷ 32 ∷ 49 ∷ 32 ∷ 48 ∷ 10 ∷ [])
     ∷ []
 
 -- a text and what is printed for it
@@ -69,11 +71,14 @@ table =
     ∷ []
 
 pub examples : map (λ r. listing (text r)) table ≡ map shown table
-unfolding some every least greatest count taskCount period deadline nominal overload criticality priority offset jobCount taskOf arrival execution jobCriticality jobPriority jobNominal zeroSlackInstant deadlineInstant refuse before ascending outside check2 check3 check4 checkTasks check5 preceding check6 check7 check8 checkJobs checkLists check9 placeAt doneAt standingAt arriving arrived opening freshPlace fresh alive someJob moreCritical higherPriority pastZeroSlack suspended eligible candidate choice doneAfter over ends finishes goesOn standingAfter placeAfter advanced replay entriesBy finalBy runEntries runRecord verdict unless listFrom leading spelled asNumber numberAt digits size decimal fieldAt numbersFrom firstLine parsedOf behindFirst line refusedLine runLine entry longestFrom longest stretch stretchLines stretches word instant lateness verdictLine jobLine jobLines printed runListing givenListing listing
+unfolding some every least greatest count taskCount period deadline nominal overload criticality priority offset jobCount taskOf arrival execution jobCriticality jobPriority jobNominal zeroSlackInstant deadlineInstant refuse before ascending outside check2 check3 check4 checkTasks check5 preceding check6 check7 check8 checkJobs checkLists check9 placeAt doneAt suspendedAt waitedAt standingAt arriving arrived opening freshPlace fresh alive someJob moreCritical higherPriority pastZeroSlack suspended eligible candidate choice doneAfter over ends finishes suspendedAfter waits waitedAfter goesOn standingAfter placeAfter advanced replay entriesBy finalBy runEntries runRecord verdict unless listFrom leading spelled asNumber numberAt digits size decimal fieldAt numbersFrom firstLine parsedOf behindFirst line refusedLine runLine entry longestFrom longest stretch stretchLines stretches word instant lateness verdictLine jobLine jobLines printed runListing givenListing listing
 examples = refl
 
--- a late job's line: `job 2 late 18 =2` where it has finished, `job 2 late - >=0` where it is alive
-pub late-lines : (verdictLine 2 (Late 2 true) (Finished 18) ≡ 106 ∷ 111 ∷ 98 ∷ 32 ∷ 50 ∷ 32 ∷ 108 ∷ 97 ∷ 116 ∷ 101 ∷ 32 ∷ 49 ∷ 56 ∷ 32 ∷ 61 ∷ 50 ∷ 10 ∷ [])
-    × (verdictLine 2 (Late 0 false) Unfinished ≡ 106 ∷ 111 ∷ 98 ∷ 32 ∷ 50 ∷ 32 ∷ 108 ∷ 97 ∷ 116 ∷ 101 ∷ 32 ∷ 45 ∷ 32 ∷ 62 ∷ 61 ∷ 48 ∷ 10 ∷ [])
+-- a late job's line: `job 2 late 18 =2 6 0` where it has finished, `job 2 late - >=0 6 0` where it is alive
+abbrev late : Standing → Place
+late s = record { done = 4; suspended = 6; waited = 0; standing = s }
+
+pub late-lines : (verdictLine 2 (Late 2 true) (late (Finished 18)) ≡ 106 ∷ 111 ∷ 98 ∷ 32 ∷ 50 ∷ 32 ∷ 108 ∷ 97 ∷ 116 ∷ 101 ∷ 32 ∷ 49 ∷ 56 ∷ 32 ∷ 61 ∷ 50 ∷ 32 ∷ 54 ∷ 32 ∷ 48 ∷ 10 ∷ [])
+    × (verdictLine 2 (Late 0 false) (late Unfinished) ≡ 106 ∷ 111 ∷ 98 ∷ 32 ∷ 50 ∷ 32 ∷ 108 ∷ 97 ∷ 116 ∷ 101 ∷ 32 ∷ 45 ∷ 32 ∷ 62 ∷ 61 ∷ 48 ∷ 32 ∷ 54 ∷ 32 ∷ 48 ∷ 10 ∷ [])
 unfolding verdictLine line behindFirst word instant lateness decimal size digits
 late-lines = (refl, refl)

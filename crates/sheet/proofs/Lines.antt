@@ -16,12 +16,13 @@ use Rattle.decimal.specs.Decimal.{after, decimal, size, writtenAt}
 use Rattle.decimal.proofs.Writing.{length-digits, size-most, told-no-room, told-to}
 use Rattle.zsrm.specs.declared.mode.Mode.{Mode}
 use Rattle.zsrm.specs.declared.mode.Mode.the-variants.{S, SE}
+use Rattle.zsrm.specs.declared.record.Place.{Place}
 use Rattle.zsrm.specs.declared.record.Standing.{Standing}
 use Rattle.zsrm.specs.declared.record.Standing.the-variants.{NotArrived, Unfinished, Finished, Ended}
 use Rattle.zsrm.specs.declared.answers.Verdict.{Verdict}
 use Rattle.sheet.specs.Listing.{behindFirst, lateness, line, sign, word, instant, verdictLine, letter, entry, longest, longestFrom, refusedLine, runLine, stretch, stretchLines, stretches}
 use Rattle.sheet.specs.Wrote.{Wrote}
-use Rattle.sheet.specs.Code.{lateText}
+use Rattle.sheet.specs.Code.{lateText, verdictText}
 use Rattle.sheet.proofs.Numbers.{sets-sets}
 use Rattle.zsrm.specs.declared.answers.Verdict.the-variants as verdicts
 
@@ -211,38 +212,50 @@ late-length (verdicts.Late by isExact) = simp length-append (omega (arith, mark-
 late-length verdicts.Ended = lit≤ tt
 late-length verdicts.Open = lit≤ tt
 
--- the words by how much, as the code writes them
-behind-late : (v : Verdict) → lateText v ++ (10 ∷ []) ≡ behindFirst (lateness v)
+-- the words by how much and those behind them, as the code writes them
+behind-late : (v : Verdict) (ws : List (List ℕ)) → lateText v ++ behindFirst ws ≡ behindFirst (lateness v ++ ws)
 unfolding lateText lateness behindFirst
-behind-late (verdicts.Refused number place) = refl
-behind-late verdicts.Met = refl
-behind-late (verdicts.Late by isExact) = refl
-behind-late verdicts.Ended = refl
-behind-late verdicts.Open = refl
+behind-late (verdicts.Refused number place) ws = refl
+behind-late verdicts.Met ws = refl
+behind-late (verdicts.Late by isExact) ws = rw append-assoc
+behind-late verdicts.Ended ws = refl
+behind-late verdicts.Open ws = refl
 
-behind-length : (v : Verdict) → length (behindFirst (lateness v)) ≤ 14
-behind-length v = rw (← behind-late v, length-append) (omega (arith, late-length v))
+pub text-length : (v : Verdict) (s : Standing) → length (verdictText v s) ≤ 29
+unfolding verdictText
+text-length v s = simp length-append (omega (arith, word-length v, instant-length s, late-length v))
 
 -- a job's line, in the parts that the code writes
-pub wrote-verdict : (v : Verdict) (s : Standing) {l m n o p r : List ℕ} {at a b c d k : ℕ} → Wrote l at (word v) m a → Wrote m a (32 ∷ []) n b → Wrote n b (instant s) o c
+pub wrote-verdict : (v : Verdict) (s : Standing) {l m n o p : List ℕ} {at a b c d : ℕ} → Wrote l at (word v) m a → Wrote m a (32 ∷ []) n b → Wrote n b (instant s) o c
     → Wrote o c (lateText v) p d
-    → Wrote p d (10 ∷ []) r k
-    → Wrote l at (line (word v) (instant s ∷ lateness v)) r k
-unfolding line behindFirst
-wrote-verdict v s w x y z e = wrote-more w (wrote-more x (wrote-more y (rw (behind-late v) at (wrote-more z e))))
+    → Wrote l at (verdictText v s) p d
+unfolding verdictText
+wrote-verdict v s w x y z = wrote-more w (wrote-more x (wrote-more y z))
 
-pub wrote-job : (j : ℕ) (v : Verdict) (s : Standing) {l m n r : List ℕ} {at a b k : ℕ} → Wrote l at (106 ∷ 111 ∷ 98 ∷ 32 ∷ []) m a
-    → Wrote m a (decimal j ++ (32 ∷ [])) n b
-    → Wrote n b (line (word v) (instant s ∷ lateness v)) r k
-    → Wrote l at (verdictLine j v s) r k
-unfolding verdictLine line behindFirst
-wrote-job j v s w x y =
-    let whole = wrote-more w (wrote-more x y) in
+pub wrote-lost : (x y : ℕ) {l m n r : List ℕ} {at a b k : ℕ} → Wrote l at (32 ∷ []) m a → Wrote m a (decimal x ++ (32 ∷ [])) n b → Wrote n b (decimal y ++ (10 ∷ [])) r k
+    → Wrote l at (behindFirst (decimal x ∷ decimal y ∷ [])) r k
+unfolding behindFirst
+wrote-lost x y u v w =
+    let whole = wrote-more u (wrote-more v w) in
     rw append-assoc at whole
 
-pub job-length : (j : ℕ) (v : Verdict) (s : Standing) → length (verdictLine j v s) ≤ 45
-unfolding verdictLine line behindFirst
-job-length j v s = simp length-append (omega (arith, decimal-length j, word-length v, instant-length s, behind-length v))
+-- the line's text in those parts
+job-text : (j : ℕ) (v : Verdict) (p : Place)
+    → (106 ∷ 111 ∷ 98 ∷ 32 ∷ []) ++ ((decimal j ++ (32 ∷ [])) ++ (verdictText v (p .standing) ++ behindFirst (decimal (p .suspended) ∷ decimal (p .waited) ∷ []))) ≡ verdictLine j v p
+unfolding verdictLine verdictText line behindFirst
+job-text j v p = rw (append-assoc, append-assoc, append-assoc, behind-late v (decimal (p .suspended) ∷ decimal (p .waited) ∷ []))
+
+pub wrote-job : (j : ℕ) (v : Verdict) (p : Place) {l m n o r : List ℕ} {at a b c k : ℕ} → Wrote l at (106 ∷ 111 ∷ 98 ∷ 32 ∷ []) m a
+    → Wrote m a (decimal j ++ (32 ∷ [])) n b
+    → Wrote n b (verdictText v (p .standing)) o c
+    → Wrote o c (behindFirst (decimal (p .suspended) ∷ decimal (p .waited) ∷ [])) r k
+    → Wrote l at (verdictLine j v p) r k
+wrote-job j v p w x y z = rw (← job-text j v p) (wrote-more w (wrote-more x (wrote-more y z)))
+
+pub job-length : (j : ℕ) (v : Verdict) (p : Place) → length (verdictLine j v p) ≤ 67
+unfolding behindFirst
+job-length j v p =
+    rw (← job-text j v p) (simp length-append (omega (arith, decimal-length j, text-length v (p .standing), decimal-length (p .suspended), decimal-length (p .waited))))
 
 pub head-length : (mode : Mode) (horizon : ℕ) → length (runLine mode horizon) ≤ 17
 unfolding runLine line behindFirst

@@ -1,4 +1,4 @@
--- What is printed for a text, malformed or not; that 543,569 bytes are room for any listing; and that a text's first 1,845 bytes decide.
+-- What is printed for a text, malformed or not; that 544,977 bytes are room for any listing; and that a text's first 1,845 bytes decide.
 use Prim.Native.Nat.{ℕ, _*_, _<_, _≤_}
 use mathlib.Core.List.{List}
 use mathlib.Core.Path.{ap, sym, _∙_, _≡_}
@@ -24,11 +24,11 @@ pub listing-formed : (s : List ℕ) {sheet : Sheet} → Told s sheet
 unfolding listing
 listing-formed s t = rw (t .says)
 
-parsed-length : (p : Parsed) → length (parsedListing p) ≤ 543569
+parsed-length : (p : Parsed) → length (parsedListing p) ≤ 544977
 parsed-length (parsed mode horizon tasks jobs) = given-length (given mode tasks jobs) horizon
 parsed-length malformed = omega (arith, refused-length 14 0)
 
-pub listing-length : (s : List ℕ) → length (listing s) ≤ 543569
+pub listing-length : (s : List ℕ) → length (listing s) ≤ 544977
 unfolding listing
 listing-length s = parsed-length (parsedOf s)
 

@@ -14,10 +14,10 @@ use Rattle.zsrm.specs.declared.answers.Judged.{Judged}
 use Rattle.zsrm.specs.declared.answers.Verdict.{Verdict}
 use Rattle.zsrm.specs.declared.answers.Verdicts.{Verdicts}
 use Rattle.zsrm.specs.declared.record.Record.{Record}
-use Rattle.zsrm.specs.declared.record.Standing.{Standing}
+use Rattle.zsrm.specs.declared.record.Place.{Place}
 use Rattle.zsrm.specs.declared.mode.Mode.{Mode}
 use Rattle.zsrm.specs.Answers.{checkSchedule, runAnswer, runSchedule, verdictsAnswer}
-use Rattle.zsrm.specs.Record.{consistent, standingAt}
+use Rattle.zsrm.specs.Record.{consistent, placeAt}
 use Rattle.tables.specs.Refusals.{before, check9, checkLists, unless}
 use Rattle.zsrm.specs.Run.{runEntries, runRecord}
 use Rattle.tables.specs.Tables.{Lists, jobCount, lists}
@@ -46,22 +46,22 @@ module _ {mode : Mode} {tasks jobs : List ℕ} {r : Record} (w : Sound mode task
       ∙ verdict-answered (given mode tasks jobs) (w .lists) r (w .sound) j l
 
 module _ (l : Lists) (r : Record) where
-  pub wrote-jobs : {v : Verdict} {s : Standing} {before m n : List ℕ} {at k i : ℕ} (j : ℕ) → v ≡ verdict l r j → s ≡ standingAt r j
-      → Wrote before at (jobLines l r j) m k → Wrote m k (verdictLine j v s) n i → Wrote before at (jobLines l r (j + 1)) n i
+  pub wrote-jobs : {v : Verdict} {p : Place} {before m n : List ℕ} {at k i : ℕ} (j : ℕ) → v ≡ verdict l r j → p ≡ placeAt r j
+      → Wrote before at (jobLines l r j) m k → Wrote m k (verdictLine j v p) n i → Wrote before at (jobLines l r (j + 1)) n i
   unfolding jobLines jobLine
-  wrote-jobs j p q x y = rw (add-one, ← p, ← q) (wrote-more x y)
+  wrote-jobs j e q x y = rw (add-one, ← e, ← q) (wrote-more x y)
 
-  pub jobs-length : (n : ℕ) → length (jobLines l r n) ≤ 45 * n
+  pub jobs-length : (n : ℕ) → length (jobLines l r n) ≤ 67 * n
   unfolding jobLines jobLine
   jobs-length zero = omega arith
-  jobs-length (suc n) = simp length-append (omega (arith, jobs-length n, job-length n (verdict l r n) (standingAt r n)))
+  jobs-length (suc n) = simp length-append (omega (arith, jobs-length n, job-length n (verdict l r n) (placeAt r n)))
 
--- 600,000 bytes are room enough: 17 for line 1, 33 for each of 16,384 ticks, 45 for each of 64 jobs
+-- 600,000 bytes are room enough: 17 for line 1, 33 for each of 16,384 ticks, 67 for each of 64 jobs
 module _ (mode : Mode) (horizon : ℕ) (es : List ℕ) (few : length es ≤ 16384) {l m : List ℕ} {k : ℕ} (room : 600000 ≤ length l) (v : Wrote l 0 (runLine mode horizon) m k) where
   pub room-stretches : k + 33 * length es ≤ length m
   room-stretches = omega (arith, v .next-is, wrote-length v, head-length mode horizon)
 
-  pub room-jobs : {n : List ℕ} {i : ℕ} → Wrote m k (stretches es) n i → (j : ℕ) → j ≤ 64 → i + 45 * j ≤ length n
+  pub room-jobs : {n : List ℕ} {i : ℕ} → Wrote m k (stretches es) n i → (j : ℕ) → j ≤ 64 → i + 67 * j ≤ length n
   room-jobs w j h =
       omega (arith, v .next-is, wrote-length v, head-length mode horizon, w .next-is, wrote-length w, stretches-length es)
 
@@ -108,17 +108,17 @@ pub refused-length : (number place : ℕ) → length (refusedLine number place) 
 unfolding refusedLine line behindFirst
 refused-length number place = simp length-append (omega (arith, decimal-length number, decimal-length place))
 
-run-length : (g : Given) (horizon : ℕ) → horizon ≤ 16384 → jobCount (g .lists .jobs) ≤ 64 → length (runListing g horizon) ≤ 543569
+run-length : (g : Given) (horizon : ℕ) → horizon ≤ 16384 → jobCount (g .lists .jobs) ≤ 64 → length (runListing g horizon) ≤ 544977
 unfolding runListing printed
 run-length g horizon h j =
     simp length-append
     (omega (arith, head-length (g .mode) horizon, stretches-length (runEntries g horizon), length-run g horizon, jobs-length (g .lists) (runRecord g horizon) (jobCount (g .lists .jobs))))
 
-pub given-length : (g : Given) (horizon : ℕ) → length (givenListing g horizon) ≤ 543569
+pub given-length : (g : Given) (horizon : ℕ) → length (givenListing g horizon) ≤ 544977
 unfolding givenListing unless check9
 given-length g horizon = by-check (before (checkLists (g .lists)) (check9 horizon)) refl
   where
-    by-check : (o : Outcome) → before (checkLists (g .lists)) (check9 horizon) ≡ o → length (unless o refusedLine (runListing g horizon)) ≤ 543569
+    by-check : (o : Outcome) → before (checkLists (g .lists)) (check9 horizon) ≡ o → length (unless o refusedLine (runListing g horizon)) ≤ 544977
     by-check Done e =
         run-length g horizon (ltb-false 16384 horizon (refuse-fine _ _ _ (before-second (checkLists (g .lists)) _ e)))
         (lists-few (g .lists) (before-first (checkLists (g .lists)) _ e))

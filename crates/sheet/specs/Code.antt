@@ -1,4 +1,4 @@
--- How the code computes: the sheet by value, what the parts of the reading answer, what the writing of a run asks, and how lateness is
+-- How the code computes: the sheet by value, what the parts of the reading answer, what the writing of a run asks, and how a verdict is
 -- written. The contract of `listing` does not cite it.
 use Prim.Native.Nat.{ℕ, _/_, _≤_}
 use mathlib.Core.Bool.{false, true}
@@ -20,7 +20,8 @@ use Rattle.sheet.specs.declared.input.Next.the-variants.{At, Broken}
 use Rattle.sheet.specs.declared.input.Sheet.{Sheet}
 use Rattle.sheet.specs.Grammar.{Numbers, Parsed, bad, got, malformed, parsed, parsedOf}
 use Rattle.zsrm.specs.Given.{given}
-use Rattle.sheet.specs.Listing.{sign}
+use Rattle.sheet.specs.Listing.{instant, sign, word}
+use Rattle.zsrm.specs.declared.record.Standing.{Standing}
 use Rattle.zsrm.specs.declared.answers.Verdict.{Verdict}
 use Rattle.decimal.specs.Decimal.{decimal}
 use Rattle.zsrm.specs.declared.answers.Verdict.the-variants as verdicts
@@ -69,10 +70,14 @@ pub record Sound (mode : Mode) (tasks jobs : List ℕ) (r : Record) : Type 0 whe
   pub lists : checkLists (lists tasks jobs) ≡ Done
   pub sound : consistent (given mode tasks jobs) r ≡ true
 
--- by how much a job is late, behind its line's other words
+-- by how much a job is late, with the space before it
 unfoldable pub lateText : Verdict → List ℕ
 lateText (verdicts.Refused number place) = []
 lateText verdicts.Met = []
 lateText (verdicts.Late by isExact) = 32 ∷ (sign isExact ++ decimal by)
 lateText verdicts.Ended = []
 lateText verdicts.Open = []
+
+-- verdict, instant and by how much
+unfoldable pub verdictText : Verdict → Standing → List ℕ
+verdictText v s = word v ++ (32 ∷ (instant s ++ lateText v))

@@ -6,13 +6,14 @@ use lib.Dec.{eqb}
 use Rattle.decimal.specs.Decimal.{decimal}
 use Rattle.zsrm.specs.declared.mode.Mode.{Mode}
 use Rattle.zsrm.specs.declared.mode.Mode.the-variants.{S, SE}
+use Rattle.zsrm.specs.declared.record.Place.{Place}
 use Rattle.zsrm.specs.declared.record.Record.{Record}
 use Rattle.zsrm.specs.declared.record.Standing.{Standing}
 use Rattle.zsrm.specs.declared.record.Standing.the-variants.{NotArrived, Unfinished, Finished, Ended}
 use Rattle.zsrm.specs.declared.answers.Verdict.{Verdict}
 use Rattle.tables.specs.Tables.{Lists, idle, jobCount}
 use Rattle.tables.specs.Refusals.{before, check9, checkLists, unless}
-use Rattle.zsrm.specs.Record.{standingAt}
+use Rattle.zsrm.specs.Record.{placeAt}
 use Rattle.zsrm.specs.Run.{runEntries, runRecord}
 use Rattle.zsrm.specs.Verdict.{verdict}
 use Rattle.sheet.specs.Grammar.{Parsed, parsed, malformed, parsedOf}
@@ -107,14 +108,15 @@ lateness (verdicts.Late by isExact) = (sign isExact ++ decimal by) ∷ []
 lateness verdicts.Ended = []
 lateness verdicts.Open = []
 
--- The word `job`, number, verdict, the instant, and by how much.
-unfoldable pub verdictLine : ℕ → Verdict → Standing → List ℕ
-verdictLine j verdict standing = line (106 ∷ 111 ∷ 98 ∷ []) (decimal j ∷ word verdict ∷ instant standing ∷ lateness verdict)
+-- The word `job`, number, verdict, the instant, by how much, and the ticks suspended and waited.
+unfoldable pub verdictLine : ℕ → Verdict → Place → List ℕ
+verdictLine j verdict p =
+    line (106 ∷ 111 ∷ 98 ∷ []) (decimal j ∷ word verdict ∷ instant (p .standing) ∷ (lateness verdict ++ (decimal (p .suspended) ∷ decimal (p .waited) ∷ [])))
 
 module _ (l : Lists) where
   -- the line of job j from a record
   unfoldable pub jobLine : Record → ℕ → List ℕ
-  jobLine r j = verdictLine j (verdict l r j) (standingAt r j)
+  jobLine r j = verdictLine j (verdict l r j) (placeAt r j)
 
   -- the lines of the first n jobs
   unfoldable pub jobLines : Record → ℕ → List ℕ

@@ -4,13 +4,14 @@ ghost use mathlib.Core.List.{[], _∷_, _++_};
 ghost use Prim.Native.Nat.{_+_, _*_, _≤_, _<_};
 ghost use lib.ListN.{length};
 ghost use Rattle.decimal.specs.Decimal.{decimal};
-ghost use Rattle.sheet.specs.Listing.{entry, instant, jobLines, lateness, sign, verdictLine, letter, line, refusedLine, runLine, stretch, stretches, word};
+ghost use Rattle.sheet.specs.Listing.{behindFirst, entry, instant, jobLines, letter, refusedLine, runLine, sign, stretch, stretches, verdictLine, word};
 ghost use Rattle.sheet.specs.Wrote.{Wrote};
-ghost use Rattle.sheet.specs.Code.{Sound, lateText};
+ghost use Rattle.sheet.specs.Code.{Sound, lateText, verdictText};
 ghost use Rattle.tables.specs.Tables.{jobCount, lists};
 use decimal::Written;
 use zsrm::IDLE;
 use zsrm::Mode;
+use zsrm::Place;
 use zsrm::Record;
 use zsrm::Standing;
 use zsrm::Verdict;
@@ -198,26 +199,37 @@ fn put_late(out: &mut [u8], at: usize, verdict: Verdict) -> usize
     }
 }
 
-// The end of a job's line: verdict, instant, and by how much it is late.
+// Verdict, instant, and by how much the job is late.
 fn put_verdict(out: &mut [u8], at: usize, verdict: Verdict, standing: Standing) -> usize
-    requires { ⌜ at + 30 ≤ length (now out) ⌝ }
-    ensures { λ r. ⌜ Wrote (now (out .entry)) at (line (word verdict) (instant standing ∷ lateness verdict)) (now (out .exit)) r ⌝ }
+    requires { ⌜ at + 29 ≤ length (now out) ⌝ }
+    ensures { λ r. ⌜ Wrote (now (out .entry)) at (verdictText verdict standing) (now (out .exit)) r ⌝ }
 {
     let a = put_word(out, at, verdict);
     let b = put_byte(out, a, b' ');
     let c = put_instant(out, b, standing);
-    let k = put_late(out, c, verdict);
-    put_byte(out, k, b'\n')
+    put_late(out, c, verdict)
+}
+
+// The end of a job's line: the ticks suspended and waited.
+fn put_lost(out: &mut [u8], at: usize, suspended: u32, waited: u32) -> usize
+    requires { ⌜ at + 23 ≤ length (now out) ⌝ }
+    ensures { λ r. ⌜ Wrote (now (out .entry)) at (behindFirst (decimal suspended ∷ decimal waited ∷ [])) (now (out .exit)) r ⌝ }
+{
+    let a = put_byte(out, at, b' ');
+    let b = put_field(out, a, suspended, b' ');
+    put_field(out, b, waited, b'\n')
 }
 
 // The line of job j.
-fn put_job(out: &mut [u8], at: usize, j: u32, verdict: Verdict, standing: Standing) -> usize
-    requires { ⌜ at + 45 ≤ length (now out) ⌝ }
-    ensures { λ r. ⌜ Wrote (now (out .entry)) at (verdictLine j verdict standing) (now (out .exit)) r ⌝ }
+fn put_job(out: &mut [u8], at: usize, j: u32, verdict: Verdict, place: Place) -> usize
+    requires { ⌜ at + 67 ≤ length (now out) ⌝ }
+    ensures { λ r. ⌜ Wrote (now (out .entry)) at (verdictLine j verdict place) (now (out .exit)) r ⌝ }
 {
+    let standing = place.standing;
     let a = put_text(out, at, b"job ");
     let b = put_field(out, a, j, b' ');
-    put_verdict(out, b, verdict, standing)
+    let c = put_verdict(out, b, verdict, standing);
+    put_lost(out, c, place.suspended, place.waited)
 }
 
 // The lines of all jobs.
@@ -230,7 +242,7 @@ pub(crate) fn put_jobs(
     jobs: &[u32],
 ) -> usize
     requires { ⌜ Sound mode (now tasks) (now jobs) rec ⌝ }
-    requires { ⌜ at + 45 * jobCount (now jobs) ≤ length (now out) ⌝ }
+    requires { ⌜ at + 67 * jobCount (now jobs) ≤ length (now out) ⌝ }
     ensures { λ r. ⌜ Wrote (now (out .entry)) at (jobLines (lists (now (tasks .entry)) (now (jobs .entry))) rec (jobCount (now (jobs .entry)))) (now (out .exit)) r ⌝ }
 {
     let all = zsrm::verdicts(rec, mode, tasks, jobs);
@@ -241,8 +253,7 @@ pub(crate) fn put_jobs(
         let judged = all.of[j];
         let place = rec.places[j];
         let verdict = judged.verdict;
-        let standing = place.standing;
-        k = put_job(out, k, j as u32, verdict, standing);
+        k = put_job(out, k, j as u32, verdict, place);
         j += 1;
     }
     k

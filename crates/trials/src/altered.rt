@@ -38,11 +38,46 @@ fn some_standing(trial: u32, place: u32, tick: u32) -> Standing
     }
 }
 
-// A place with another standing, with more or fewer ticks done, or both.
-fn altered_place(p: Place, trial: u32, place: u32, tick: u32) -> Place
+fn with_times(p: Place, done: u32, suspended: u32, waited: u32) -> Place {
+    let standing = p.standing;
+    Place {
+        done,
+        suspended,
+        waited,
+        standing,
+    }
+}
+
+// A place with other ticks lost: one more of either or of both; one moved from one number to another, which leaves the sum; or two whose
+// sum is right in 32 bits alone.
+fn with_losses(p: Place, trial: u32, place: u32) -> Place
     requires { ⌜ place < 50000 ⌝ }
 {
-    let kind = draw(trial, place, 3);
+    let d = p.done % 65536;
+    let s = p.suspended % 65536;
+    let w = p.waited % 65536;
+    let near = draw(trial, place + 1, 3);
+    match draw(trial, place, 9) {
+        0 => with_times(p, d, s + 1, w),
+        1 => with_times(p, d, s, w + 1),
+        2 => with_times(p, d, s + 1, w + 1),
+        3 => with_times(p, d, less(s, 1), w + least(s, 1)),
+        4 => with_times(p, d, s + least(w, 1), less(w, 1)),
+        5 => with_times(p, less(d, 1), s, w + least(d, 1)),
+        6 => with_times(p, d + least(s, 1), less(s, 1), w),
+        7 => with_times(p, d, 4294967295 - near, s + w + near + 1),
+        _ => with_times(p, d, s + w + near + 1, 4294967295 - near),
+    }
+}
+
+// A place with other ticks lost, or with another standing, with more or fewer ticks done, or both.
+fn altered_place(p: Place, trial: u32, place: u32, tick: u32) -> Place
+    requires { ⌜ place < 40000 ⌝ }
+{
+    let kind = draw(trial, place, 6);
+    if 3 <= kind {
+        return with_losses(p, trial, place + 6);
+    }
     let way = draw(trial, place + 5, 4);
     let before = p.standing;
     let standing = if kind == 0 {
@@ -54,6 +89,8 @@ fn altered_place(p: Place, trial: u32, place: u32, tick: u32) -> Place
     let done = if way == 0 { p.done % 65536 + 1 } else { fewer };
     Place {
         done: if kind == 1 { p.done } else { done },
+        suspended: p.suspended,
+        waited: p.waited,
         standing,
     }
 }
@@ -69,20 +106,30 @@ fn some_tick(trial: u32, place: u32, tick: u32) -> u32 {
     if kind == 2 { 16385 } else { 16384 }
 }
 
-// A standing that fits a job so many ticks after its arrival.
-fn fitting_standing(case: Case, place: u32, arrival: u32, done: u32, c: u32, since: u32) -> Standing
+// A place with so many ticks done that fits a job so many after its arrival: one finished or ended may have lost any number of those that
+// are left, an unfinished one has lost them all, and what is lost falls to either number.
+fn fitting_with(case: Case, place: u32, arrival: u32, c: u32, since: u32, done: u32) -> Place
     requires { ⌜ place < 50000 ⌝ }
 {
     let trial = case.trial;
-    let start = arrival % 65536;
-    if done == c {
-        let spare = less(since, c) % 65536;
-        return Standing::Finished(start + c % 65536 + draw(trial, place, spare + 1));
-    }
-    if case.se & (0 < since) & (draw(trial, place + 1, 3) == 0) {
-        Standing::Ended(start + draw(trial, place + 2, since))
+    let spare = less(since, done) % 65536;
+    let some = draw(trial, place, spare + 1);
+    let instant = arrival % 65536 + done % 65536 + some;
+    let ends = case.se & (arrival < instant) & (draw(trial, place + 1, 3) == 0);
+    let standing = if done == c {
+        Standing::Finished(instant)
+    } else if ends {
+        Standing::Ended(less(instant, 1))
     } else {
         Standing::Unfinished
+    };
+    let lost = if (done == c) | ends { some } else { spare };
+    let suspended = draw(trial, place + 2, lost % 65536 + 1);
+    Place {
+        done,
+        suspended,
+        waited: less(lost, suspended),
+        standing,
     }
 }
 
@@ -96,6 +143,8 @@ fn fitting_place(case: Case, jobs: &[u32], j: usize, tick: u32) -> Place {
     if tick < a {
         return Place {
             done: 0,
+            suspended: 0,
+            waited: 0,
             standing: Standing::NotArrived,
         };
     }
@@ -104,8 +153,7 @@ fn fitting_place(case: Case, jobs: &[u32], j: usize, tick: u32) -> Place {
     } else {
         draw(case.trial, place + 1, most % 65536 + 1)
     };
-    let standing = fitting_standing(case, place + 2, a, done, c, since);
-    Place { done, standing }
+    fitting_with(case, place + 2, a, c, since, done)
 }
 
 // A record of which every place of a job fits.

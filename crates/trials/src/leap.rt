@@ -8,18 +8,21 @@ use crate::list::NOMINAL;
 use crate::list::OFFSET;
 use crate::list::PRIORITY;
 use crate::list::job;
+use crate::list::less;
 use crate::list::of;
 use crate::list::wide;
 
 // What is left of each job, and its fate, at an instant: 0 while it is open, 4 f + 1 for a finish at f, 4 e + 2 for an end in tick e, 3
 // where there is no such job. A turn is an instant at which the job that ran finished or, in SE, reached C; cut has a bit for each job that
-// the tick before ended.
+// the tick before ended. Of its time a job has been held so many ticks below the bar, and has waited so many for others that ran.
 pub(crate) struct Sim {
     pub now: u32,
     pub turn: bool,
     pub cut: u64,
     pub left: [u32; 64],
     pub fate: [u32; 64],
+    pub held: [u32; 64],
+    pub waited: [u32; 64],
 }
 
 // One more than the criticality of a job that presses, with its zero-slack instant behind it; 0 for every other.
@@ -172,25 +175,37 @@ fn runs_until(se: bool, tasks: &[u32], jobs: &[u32], x: usize, left: u32, now: u
     finish
 }
 
-// Every job below the bar is ended in the present tick.
+// Every job below the bar is ended in the present tick, which is one more in which it is held.
 fn cut_down(s: Sim, tasks: &[u32], jobs: &[u32], bar: u64) -> Sim {
-    let now = s.now;
-    let left = s.left;
-    let mut fate = s.fate;
+    let mut next = s;
     let mut cut: u64 = 0;
     for j in 0..64 {
-        if stands(tasks, jobs, j, fate[j], now, bar) == 1 {
-            fate[j] = (now % 65536) * 4 + 2;
+        if stands(tasks, jobs, j, s.fate[j], s.now, bar) == 1 {
+            next.fate[j] = (s.now % 65536) * 4 + 2;
+            next.held[j] = s.held[j] % 65536 + 1;
             cut = cut | (1 << j);
         }
     }
-    Sim {
-        now,
-        turn: false,
-        cut,
-        left,
-        fate,
+    next.cut = cut;
+    next
+}
+
+// What the stretch up to an instant, with the job x running, costs the jobs that have come and are not over with: no instant lies inside
+// it, so each stands where it stands at its beginning. A job that the present tick ends is over with, its tick counted.
+fn bide(s: Sim, tasks: &[u32], jobs: &[u32], x: usize, until: u32) -> Sim {
+    let high = bar(s, tasks, jobs);
+    let stretch = less(until, s.now);
+    let mut next = s;
+    for j in 0..64 {
+        let own = stands(tasks, jobs, j, s.fate[j], s.now, high);
+        if own == 1 {
+            next.held[j] = s.held[j] % 65536 + stretch % 65536;
+        }
+        if (own == 2) & (x < 64) & (j != x) {
+            next.waited[j] = s.waited[j] % 65536 + stretch % 65536;
+        }
     }
+    next
 }
 
 // The job x runs up to an instant.
@@ -232,5 +247,6 @@ pub(crate) fn leap(s: Sim, se: bool, tasks: &[u32], jobs: &[u32], x: usize, limi
     } else {
         wide(s.now) + 1
     };
-    spend(cut, se, tasks, jobs, x, (next % 4294967296) as u32)
+    let to = (next % 4294967296) as u32;
+    spend(bide(cut, tasks, jobs, x, to), se, tasks, jobs, x, to)
 }

@@ -23,7 +23,8 @@ pub(crate) fn holds(rec: Record, jobs: &[u32], s: Sim) -> bool {
     let mut same = rec.tick == s.now;
     for j in 0..64 {
         let place = rec.places[j];
-        same = place_holds(place, jobs, j, s.left[j], s.fate[j], s.now) & same;
+        let lost = (place.suspended == s.held[j]) & (place.waited == s.waited[j]);
+        same = place_holds(place, jobs, j, s.left[j], s.fate[j], s.now) & lost & same;
     }
     same
 }
@@ -47,11 +48,15 @@ pub(crate) fn taken_up(rec: Record, jobs: &[u32]) -> Sim {
     let n = jobs.len() / 3;
     let mut left = [0u32; 64];
     let mut fate = [3u32; 64];
+    let mut held = [0u32; 64];
+    let mut waited = [0u32; 64];
     for j in 0..64 {
         if j < n {
             let place = rec.places[j];
             left[j] = less(job(jobs, j, EXECUTION), place.done);
             fate[j] = fate_of(place, jobs, j);
+            held[j] = place.suspended;
+            waited[j] = place.waited;
         }
     }
     Sim {
@@ -60,6 +65,8 @@ pub(crate) fn taken_up(rec: Record, jobs: &[u32]) -> Sim {
         cut: 0,
         left,
         fate,
+        held,
+        waited,
     }
 }
 
@@ -67,6 +74,8 @@ pub(crate) fn taken_up(rec: Record, jobs: &[u32]) -> Sim {
 pub(crate) fn begin(jobs: &[u32]) -> Sim {
     let empty = Place {
         done: 0,
+        suspended: 0,
+        waited: 0,
         standing: Standing::NotArrived,
     };
     let blank = Record {
@@ -100,12 +109,38 @@ fn place_fits(se: bool, jobs: &[u32], j: usize, place: Place, now: u32) -> bool 
     }
 }
 
+// Up to when a job has had time: now, its finish, or the end of the tick that ended it; where it has not come, no matter.
+fn time_until(standing: Standing, now: u32) -> u64 {
+    match standing {
+        Standing::NotArrived => 0,
+        Standing::Unfinished => wide(now),
+        Standing::Finished(f) => wide(f),
+        Standing::Ended(e) => wide(e) + 1,
+    }
+}
+
+// Whether the ticks that a place has lost are all the time of its job beyond the ticks done, and none where it has not come. They are
+// added in 64 bits, where no sum comes round to a smaller one.
+fn losses_fit(jobs: &[u32], j: usize, place: Place, now: u32) -> bool {
+    let standing = place.standing;
+    let lost = wide(place.suspended) + wide(place.waited);
+    let until = time_until(standing, now);
+    if of_standing(standing) == 3 {
+        return lost == 0;
+    }
+    if until < lost {
+        return false;
+    }
+    until - lost == wide(job(jobs, j, ARRIVAL)) + wide(place.done)
+}
+
 // Whether a record is consistent with the jobs.
 pub(crate) fn consistent(rec: Record, se: bool, jobs: &[u32]) -> bool {
     let mut every = rec.tick <= 16384;
     for j in 0..64 {
         let place = rec.places[j];
-        every = place_fits(se, jobs, j, place, rec.tick) & every;
+        let lost = losses_fit(jobs, j, place, rec.tick);
+        every = place_fits(se, jobs, j, place, rec.tick) & lost & every;
     }
     every
 }

@@ -4,10 +4,11 @@
 -- contract of its function in src/, which takes any input and returns; with `runSchedule` and `runBytes` for what a run writes. `checkLists`,
 -- `checkStep`, `checkSchedule`, `checkVerdict` and `checkWitness` are the checks of each entry point, in the order of their numbers.
 -- `..Said` says an answer in numbers, and Said gives each its name: `done`, `refused number place`, `legal`, `notLegal t`, `met`,
--- `late n isExact`, `ended`, `outside i`, `notMissed`, `acceptedLate n isExact`, `acceptedEnded`, `unfinished`, `finishedAt f`, `endedIn e`.
--- `recordBefore g schedule t` is the record before tick t of the schedule, `replayed g schedule` the one at its end, and
--- `replay g r entries` the one that entries lead to from r. All of them are definitions of specs/. Laws/Promises has `topmost-example`, a
--- table that meets the premise of (ii).
+-- `late n isExact`, `ended`, `outside i`, `notMissed`, `acceptedLate n isExact`, `acceptedEnded`, `unfinished`, `finishedAt f`,
+-- `endedIn e`. `recordBefore g schedule t` is the record before tick t of the schedule, `replayed g schedule` the one at its end, and
+-- `replay g r entries` the one that entries lead to from r; `suspendedAt r j` and `waitedAt r j` are the ticks that a record counts for job
+-- j as suspended while alive and as eligible while another job ran. All of them are definitions of specs/. Laws/Promises has
+-- `topmost-example`, a table that meets the premise of (ii).
 use Prim.Native.Nat.{_*_, _+_, _-_, _<_, ℕ, _≤_}
 use mathlib.Core.Bool.{Bool, false, true}
 use mathlib.Core.List.{List}
@@ -19,7 +20,7 @@ use Rattle.zsrm.specs.declared.answers.Judged.{Judged}
 use Rattle.zsrm.specs.declared.record.Record.{Record}
 use Rattle.zsrm.specs.declared.record.Standing.the-variants.{Finished, Ended}
 use Rattle.zsrm.specs.Answers.{checkSchedule, checkStep, checkVerdict, checkWitness, claimAnswer, freshAnswer, ran, refusedStep, responseAnswer, judgedAt, runAnswer, runSchedule, stepAnswer, stepped, stepsFrom, verdictAnswer, verdictsAnswer, witnessAnswer}
-use Rattle.zsrm.specs.Record.{blank, consistent, fresh, standingAt}
+use Rattle.zsrm.specs.Record.{blank, consistent, fresh, standingAt, suspendedAt, waitedAt}
 use Rattle.tables.specs.Refusals.{checkLists}
 use Rattle.zsrm.specs.Run.{replay, replayed, recordBefore}
 use Rattle.zsrm.specs.Said.{acceptedEnded, acceptedLate, claimSaid, ended, endedIn, finishedAt, late, legal, met, notLegal, notMissed, standingSaid, unfinished, verdictSaid, witnessSaid, outside}
@@ -31,13 +32,13 @@ use Rattle.zsrm.specs.Verdict.{emptyPart}
 use Rattle.zsrm.proofs.Laws.Answers.{is-legal, met-answer, run-claim, run-outcome}
 use Rattle.zsrm.proofs.Laws.Assumption.{ended-broken, first-outside}
 use Rattle.zsrm.proofs.Laws.Consistent.{pending-alive}
-use Rattle.zsrm.proofs.Laws.Promises.{ended-accepted, late-accepted, met-not-missed, outside-answered, ran-consistent, ran-entry, ran-replayed, ran-step-done, ran-steps, run-checked, run-refused-keeps, shown-entries, shown-from, shown-length}
+use Rattle.zsrm.proofs.Laws.Promises.{ended-accepted, late-accepted, met-not-missed, ran-consistent, ran-entry, ran-replayed, ran-step-done, ran-steps, run-checked, run-refused-keeps, shown-entries, shown-from, shown-length, response-made, outside-answered}
 use Rattle.zsrm.proofs.Laws.Replay.{legal-at, legal-may, replayed-is, tick-recordBefore}
 use Rattle.bits.proofs.Below.{getD-list}
 use Rattle.zsrm.proofs.Laws.Said.{finish-told, standing-said}
 use Rattle.zsrm.proofs.Laws.Tick.{dispatch-serves, past-exactly}
-use Rattle.zsrm.proofs.Laws.Topmost.{assured-in-time, topmost-finished, topmost-within}
-use Rattle.zsrm.proofs.Readings.{FirstOutside, LeastIllegal, LegalAt, Within}
+use Rattle.zsrm.proofs.Laws.Topmost.{assured-in-time, topmost-finished, topmost-unsuspended, topmost-within}
+use Rattle.zsrm.proofs.Readings.{LeastIllegal, LegalAt, FirstOutside, Within}
 use Rattle.zsrm.proofs.Laws.Verdicts.{legal-consistent}
 use Rattle.tables.proofs.Laws.Accepted.{lists-few, lists-jobs, lists-tasks}
 use Rattle.zsrm.proofs.Laws.Called.{c-refused-both, c-run-claim, c-run-kept, c-run-zero}
@@ -335,6 +336,25 @@ module _ (g : Given) (horizon : ℕ) (schedule : List ℕ) (ok : claimSaid (clai
         let a = is-legal g horizon schedule ok .input in
         met-not-missed g horizon schedule ok j l
         (topmost-within g k (lists-tasks (g .lists) (a .lists)) (lists-jobs (g .lists) (a .lists)) top j (record { job = l; its = its })) (meets h)
+
+    -- Nor is it ever suspended: it has 0 ticks suspended in the record before every tick, and in the one at the end.
+    pub never-suspended : (t : ℕ) → suspendedAt (recordBefore g schedule t) j ≡ 0
+    never-suspended t =
+        let c = is-legal g horizon schedule ok in
+        let a = c .input in
+        topmost-unsuspended g k (lists-tasks (g .lists) (a .lists)) (lists-jobs (g .lists) (a .lists)) top schedule (omega arith) (c .legal) t j (record { job = l; its = its })
+
+    pub never-suspended-at-end : suspendedAt (replayed g schedule) j ≡ 0
+    never-suspended-at-end =
+        subst (λ (r : Record). suspendedAt r j ≡ 0) (replayed-is g schedule horizon (is-legal g horizon schedule ok .input .whole)) (never-suspended horizon)
+
+  -- ## Where time was lost, of a job that finished at f: its response, f − arrival, is its execution time plus the ticks that it was
+  -- suspended plus the ticks that it was eligible while another job ran
+
+  pub response-is : (j f : ℕ) → j < jobCount (g .lists .jobs) → standingSaid (standingAt (replayed g schedule) j) ≡ finishedAt f
+      → arrival (g .lists .jobs) j + execution (g .lists .jobs) j + suspendedAt (replayed g schedule) j + waitedAt (replayed g schedule) j ≡ f
+  unfolding standingSaid
+  response-is j f l says = response-made g horizon schedule ok j l f (standing-said (standingAt (replayed g schedule) j) (Finished f) says)
 
   -- ## The part that is shown of a job that finished at f: the schedule's entries from its arrival up to f
 

@@ -24,18 +24,18 @@ use Rattle.zsrm.specs.declared.record.Standing.{Standing}
 use Rattle.zsrm.specs.declared.record.Standing.the-variants.{Ended, Finished, NotArrived, Unfinished}
 use Rattle.zsrm.specs.declared.mode.Mode.the-variants.{SE}
 use Rattle.zsrm.specs.Legal.{claim, candidateOrIdle, finishedAt, legalEntry, schedulingInstant, instantBy, isLegal, legalFrom, legalLength}
-use Rattle.zsrm.specs.Record.{consistent, doneAt, fresh, standingAt}
+use Rattle.zsrm.specs.Record.{consistent, doneAt, fresh, standingAt, suspendedAt, waitedAt}
 use Rattle.zsrm.specs.Given.{isSE, Given}
 use Rattle.zsrm.specs.Run.{replayed, recordBefore}
 use Rattle.tables.specs.Tables.{arrival, deadlineInstant, execution, idle, jobCount, jobCriticality, jobNominal, jobPriority, zeroSlackInstant}
-use Rattle.zsrm.specs.Tick.{advanced, alive, candidate, choice, doneAfter, eligible, endedWord, ends, finishes, jobWord, moreCritical, over, pastZeroSlack, readyAt, readyCount, readyWord, someJob, suspended}
-use Rattle.zsrm.specs.Verdict.{answered, blamed, breaks, isOutside, judged, missed, outsider, verdict, witness}
-use Rattle.zsrm.proofs.Laws.Places.{done-advanced, alive-unfinished, standing-alive}
+use Rattle.zsrm.specs.Tick.{advanced, alive, candidate, choice, doneAfter, eligible, endedWord, ends, finishes, jobWord, moreCritical, over, pastZeroSlack, readyAt, readyCount, readyWord, someJob, suspended, suspendedAfter, waitedAfter, waits}
+use Rattle.zsrm.specs.Verdict.{answered, blamed, judged, missed, verdict, witness, breaks, isOutside, outsider}
+use Rattle.zsrm.proofs.Laws.Places.{done-advanced, alive-unfinished, standing-alive, suspended-advanced, waited-advanced}
 use Rattle.zsrm.proofs.Laws.Ready.{ready-ones, ready-exactly}
 use Rattle.zsrm.proofs.Laws.Replay.{legal-at, Beginning, beginning, beginning-is}
 use Rattle.zsrm.proofs.Laws.Answers.{whole-legal}
 use Rattle.zsrm.proofs.Laws.Consistent.{Consistent, consistency}
-use Rattle.zsrm.proofs.Laws.Tick.{done-idle, done-ran, eligible-unended, goes-on, runs-eligible, se-reads, candidate-exactly, finishing, past-exactly}
+use Rattle.zsrm.proofs.Laws.Tick.{Raised, done-idle, done-ran, eligible-unended, ended-suspended, goes-on, none-raised, one-raised, runs-eligible, se-reads, candidate-exactly, finishing, past-exactly, suspended-exactly, suspended-more, suspended-same, waited-more, waited-same, waiting}
 use Rattle.zsrm.specs.declared.answers.Verdict.the-variants as verdicts
 use Rattle.zsrm.specs.declared.answers.Witness.the-variants as witnesses
 use Rattle.zsrm.specs.declared.answers.Claim.the-variants as claims
@@ -53,7 +53,8 @@ apart z = absurd (omega arith)
 
 -- ## The record
 
--- "It is consistent when" t ≤ 16,384 and every place is sound: `Sound`, in Laws/Consistent, has the list's sentences, by the standing.
+-- "It is consistent when" t ≤ 16,384 and every place is sound and accounted for: `Sound` and `Accounted`, in Laws/Consistent, have the
+-- list's sentences, by the standing.
 pub consistent-reads : (g : Given) (r : Record) → consistent g r ≡ true ↔ Consistent g r
 consistent-reads = consistency
 
@@ -72,8 +73,7 @@ module _ (g : Given) (r : Record) where
   -- "Suspended: alive, and some job past zero slack is strictly more critical."
   pub suspended-reads : (j : ℕ) → suspended g r j ≡ true
       ↔ (alive r j ≡ true) × SomeJob g (λ i. (pastZeroSlack g r i ≡ true) × (jobCriticality (g .lists) j < jobCriticality (g .lists) i))
-  unfolding suspended someJob moreCritical
-  suspended-reads j = and-reads Iff·rfl (some-reads _ (λ i. and-reads Iff·rfl (lt-reads _ _)))
+  suspended-reads = suspended-exactly g r
 
   -- "Eligible: alive and not suspended."
   pub eligible-reads : (j : ℕ) → eligible g r j ≡ true ↔ (alive r j ≡ true) × (suspended g r j ≡ false)
@@ -142,6 +142,33 @@ module _ (g : Given) (r : Record) (e : ℕ) where
       (λ q f. (λ h. apart (cc), λ h. clash (finishing g r e j .1 (q, f)) (h .0))) (λ x y. (λ h. (x, y), λ h. refl))
       (λ x y. (λ h. apart (cc), λ h. clash (h .1) y)))
 
+  -- "ticks suspended while alive": a job that is suspended in the tick has one more, and no other; the record after the tick holds it.
+  pub suspendedAfter-suspended : (j : ℕ) → suspended g r j ≡ true → suspendedAfter g r e j ≡ suc (suspendedAt r j)
+  suspendedAfter-suspended = suspended-more g r e
+
+  pub suspendedAfter-other : (j : ℕ) → suspended g r j ≡ false → suspendedAfter g r e j ≡ suspendedAt r j
+  suspendedAfter-other = suspended-same g r e
+
+  pub suspendedAfter-held : (j : ℕ) → j < 64 → suspendedAt (advanced g r e) j ≡ suspendedAfter g r e j
+  suspendedAfter-held = suspended-advanced g r e
+
+  -- "ticks eligible while another job ran": the same of a job that is eligible in the tick, the entry being another job of the list.
+  pub waits-reads : (j : ℕ) → waits g r e j ≡ true ↔ (eligible g r j ≡ true) × (e < jobCount (g .lists .jobs)) × (e ≢ j)
+  waits-reads = waiting g r e
+
+  pub waitedAfter-waits : (j : ℕ) → waits g r e j ≡ true → waitedAfter g r e j ≡ suc (waitedAt r j)
+  waitedAfter-waits = waited-more g r e
+
+  pub waitedAfter-other : (j : ℕ) → waits g r e j ≡ false → waitedAfter g r e j ≡ waitedAt r j
+  waitedAfter-other = waited-same g r e
+
+  pub waitedAfter-held : (j : ℕ) → j < 64 → waitedAt (advanced g r e) j ≡ waitedAfter g r e j
+  waitedAfter-held = waited-advanced g r e
+
+  -- "the tick in which it is ended counts as suspended"
+  pub ended-counts : (j : ℕ) → ends g r e j ≡ true → suspendedAfter g r e j ≡ suc (suspendedAt r j)
+  ended-counts j h = suspended-more g r e j (ended-suspended g r e j h)
+
 -- "A step reports a 64-bit ready word, whose bit p is set exactly when an eligible job of priority p exists, the number of its ones, the
 -- schedule entry, and a 64-bit word whose bit j is set exactly when job j is ended in this tick."
 pub readyWord-reads : (g : Given) (r : Record) (p : ℕ) → p < 64
@@ -205,6 +232,14 @@ module _ (g : Given) (r : Record) where
   ended-legal e j d l a =
       Iff·trans (ended-reads g r e j l a)
       (λ w. w .1, λ h. (fails _ (λ f. clash h (eligible-unended g r e j (runs-eligible g r e j d l (finishing g r e j .0 f .0)))), h))
+
+  -- "done plus both": a tick whose entry may run raises exactly one of the three numbers of a job alive, by one, and none of any other's.
+  pub alive-raises-one : (e j : ℕ) → candidateOrIdle g r e ≡ true → j < 64 → j < jobCount (g .lists .jobs) → alive r j ≡ true
+      → Raised g r e j 1 0 0 ⊎ Raised g r e j 0 1 0 ⊎ Raised g r e j 0 0 1
+  alive-raises-one e j may = one-raised g r e may j
+
+  pub other-raises-none : (e j : ℕ) → candidateOrIdle g r e ≡ true → j < 64 → alive r j ≡ false → Raised g r e j 0 0 0
+  other-raises-none e j may = none-raised g r e may j
 
 -- "earlier entries taken as given": the entry before tick t, idle before the first; entry t of a schedule is legal.
 abbrev pub entryBefore : List ℕ → ℕ → ℕ

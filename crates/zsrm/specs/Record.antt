@@ -14,9 +14,9 @@ use Rattle.tables.specs.declared.outcome.Outcome.{Outcome}
 use Rattle.tables.specs.Refusals.{refuse}
 use Rattle.tables.specs.Tables.{jobCount, arrival, execution}
 
--- not arrived with 0 done
+-- not arrived with 0 done, 0 suspended and 0 waited
 abbrev pub empty : Place
-empty = record { done = 0; standing = NotArrived }
+empty = record { done = 0; suspended = 0; waited = 0; standing = NotArrived }
 
 unfoldable pub placeAt : Record → ℕ → Place
 placeAt r j = getD (r .places) j empty
@@ -24,10 +24,18 @@ placeAt r j = getD (r .places) j empty
 unfoldable pub doneAt : Record → ℕ → ℕ
 doneAt r j = placeAt r j .done
 
+-- ticks suspended while alive
+unfoldable pub suspendedAt : Record → ℕ → ℕ
+suspendedAt r j = placeAt r j .suspended
+
+-- ticks eligible while another job ran
+unfoldable pub waitedAt : Record → ℕ → ℕ
+waitedAt r j = placeAt r j .waited
+
 unfoldable pub standingAt : Record → ℕ → Standing
 standingAt r j = placeAt r j .standing
 
--- A refusal's record holds tick 0 and 64 places not arrived with 0 done.
+-- A refusal's record holds tick 0 and 64 places not arrived with 0 done, 0 suspended and 0 waited.
 unfoldable pub blank : Record
 blank = record { tick = 0; places = replicate 64 empty }
 
@@ -45,7 +53,7 @@ opening jobs t j = cond (arrived jobs t j) (arriving jobs j) NotArrived
 
 -- The fresh record has t = 0 and nothing done.
 unfoldable pub freshPlace : List ℕ → ℕ → Place
-freshPlace jobs j = record { done = 0; standing = opening jobs 0 j }
+freshPlace jobs j = record { done = 0; suspended = 0; waited = 0; standing = opening jobs 0 j }
 
 unfoldable pub fresh : List ℕ → Record
 fresh jobs = record { tick = 0; places = listFrom 0 64 (freshPlace jobs) }
@@ -61,10 +69,23 @@ soundPlace se here a c t done Unfinished = here && ltb done c && leb (a + done) 
 soundPlace se here a c t done (Finished f) = here && eqb done c && leb (a + done) t && leb (a + c) f && leb f t
 soundPlace se here a c t done (Ended e) = se && here && ltb done c && leb (a + done) t && leb a e && ltb e t
 
+-- done plus both: the ticks done, suspended and waited
+abbrev pub spent : Place → ℕ
+spent p = p .done + p .suspended + p .waited
+
+-- For an arrived job, done plus both is t, the finishing instant, or the ending tick plus 1, minus the arrival a; before arrival both are
+-- 0. `a + spent = t` says spent = t − arrival.
+abbrev pub accounted : ℕ → ℕ → Place → Standing → Bool
+accounted a t p NotArrived = eqb (p .suspended) 0 && eqb (p .waited) 0
+accounted a t p Unfinished = eqb (a + spent p) t
+accounted a t p (Finished f) = eqb (a + spent p) f
+accounted a t p (Ended e) = eqb (a + spent p) (e + 1)
+
 unfoldable pub soundAt : Given → Record → ℕ → Bool
 soundAt g r j =
     soundPlace (isSE (g .mode)) (arrived (g .lists .jobs) (r .tick) j) (arrival (g .lists .jobs) j) (execution (g .lists .jobs) j) (r .tick) (doneAt r j)
     (standingAt r j)
+    && accounted (arrival (g .lists .jobs) j) (r .tick) (placeAt r j) (standingAt r j)
 
 -- t ≤ 16,384, and every place is sound.
 unfoldable pub consistent : Given → Record → Bool

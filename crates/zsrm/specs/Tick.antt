@@ -10,7 +10,7 @@ use Rattle.zsrm.specs.declared.record.Place.{Place}
 use Rattle.zsrm.specs.declared.record.Record.{Record}
 use Rattle.zsrm.specs.Given.{Given, isSE}
 use Rattle.tables.specs.Tables.{idle, jobCount, execution, jobCriticality, jobPriority, jobNominal, zeroSlackInstant}
-use Rattle.zsrm.specs.Record.{doneAt, standingAt, opening}
+use Rattle.zsrm.specs.Record.{doneAt, suspendedAt, waitedAt, standingAt, opening}
 
 abbrev pub unfinished : Standing → Bool
 unfinished NotArrived = false
@@ -93,6 +93,18 @@ module _ (g : Given) where
       unfoldable pub endedWord : ℕ
       endedWord = jobWord (g .lists .jobs) ends
 
+      -- A job that is suspended has one more tick suspended.
+      unfoldable pub suspendedAfter : ℕ → ℕ
+      suspendedAfter j = suspendedAt r j + cond (suspended j) 1 0
+
+      -- Eligible while another job runs: the entry is a job of the list, and not this one.
+      unfoldable pub waits : ℕ → Bool
+      waits j = eligible j && ltb e (jobCount (g .lists .jobs)) && not (eqb e j)
+
+      -- A job that waits so has one more tick waited.
+      unfoldable pub waitedAfter : ℕ → ℕ
+      waitedAfter j = waitedAt r j + cond (waits j) 1 0
+
       -- the standing after the tick of a job that was alive in it
       unfoldable pub goesOn : ℕ → Standing
       goesOn j = cond (finishes j) (Finished (suc (r .tick))) (cond (ends j) (Ended (r .tick)) Unfinished)
@@ -105,7 +117,8 @@ module _ (g : Given) where
       standingAfter j (Ended t) = Ended t
 
       unfoldable pub placeAfter : ℕ → Place
-      placeAfter j = record { done = doneAfter j; standing = standingAfter j (standingAt r j) }
+      placeAfter j =
+          record { done = doneAfter j; suspended = suspendedAfter j; waited = waitedAfter j; standing = standingAfter j (standingAt r j) }
 
       -- The record comes back advanced by one tick.
       unfoldable pub advanced : Record

@@ -134,7 +134,7 @@ pub(crate) fn taken(
     ensures { λ r. ⌜ r ≡ advanced (given mode (now (tasks .entry)) (now (jobs .entry))) rec entry ⌝ }
 {
     let ended = ended_word(seen, rec, mode, entry, tasks, jobs);
-    rec.after(entry, ended, jobs)
+    rec.after(seen.ticked(entry, ended, jobs), jobs)
 }
 
 // How many entries of a schedule are legal, up to the first that is not, and the record there.

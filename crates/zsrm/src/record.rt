@@ -1,7 +1,9 @@
-// Document 01, "The record": the tick, and for each of 64 places the ticks done and one standing.
+// Document 01, "The record", with request Eight's two numbers: the tick, and for each of 64 places the ticks done, suspended and waited, and
+// one standing.
 ghost use mathlib.Core.Path.{_≡_};
+ghost use mathlib.Core.Bool.{_&&_};
 ghost use Rattle.tables.specs.Tables.{arrival, execution};
-ghost use Rattle.zsrm.specs.Record.{arrived, blank, freshPlace, fresh, soundPlace, consistent, check11, check12};
+ghost use Rattle.zsrm.specs.Record.{arrived, blank, freshPlace, fresh, soundPlace, accounted, consistent, check11, check12};
 ghost use Rattle.zsrm.specs.Given.{isSE, given};
 ghost use Rattle.zsrm.specs.Code.Next.{openingOf};
 use crate::mode::Mode;
@@ -22,6 +24,10 @@ pub enum Standing {
 
 pub struct Place {
     pub done: u32,
+    // ticks suspended while alive
+    pub suspended: u32,
+    // ticks eligible while another job ran
+    pub waited: u32,
     pub standing: Standing,
 }
 
@@ -36,6 +42,8 @@ pub(crate) fn blank() -> Record
 {
     let empty = Place {
         done: 0,
+        suspended: 0,
+        waited: 0,
         standing: Standing::NotArrived,
     };
     Record {
@@ -67,14 +75,29 @@ fn is_sound(se: bool, here: bool, a: u32, c: u32, t: u32, done: u32, standing: S
     }
 }
 
+// Whether the ticks done, suspended and waited account for all since arrival; in 64 bits, as a record may hold any numbers.
+fn is_accounted(a: u32, t: u32, place: Place) -> bool
+    ensures { λ r. ⌜ r ≡ accounted a t place (place .standing) ⌝ }
+{
+    let standing = place.standing;
+    let spent = (place.done as u64) + (place.suspended as u64) + (place.waited as u64);
+    let to = (a as u64) + spent;
+    match standing {
+        Standing::NotArrived => (place.suspended == 0) & (place.waited == 0),
+        Standing::Unfinished => to == (t as u64),
+        Standing::Finished(f) => to == (f as u64),
+        Standing::Ended(e) => to == (e as u64) + 1,
+    }
+}
+
 // What consistency asks of place j.
 fn is_sound_at(mode: Mode, jobs: &[u32], t: u32, j: u32, place: Place) -> bool
-    ensures { λ r. ⌜ r ≡ soundPlace (isSE mode) (arrived (now (jobs .entry)) t j) (arrival (now (jobs .entry)) j) (execution (now (jobs .entry)) j) t (place .done) (place .standing) ⌝ }
+    ensures { λ r. ⌜ r ≡ (soundPlace (isSE mode) (arrived (now (jobs .entry)) t j) (arrival (now (jobs .entry)) j) (execution (now (jobs .entry)) j) t (place .done) (place .standing) && accounted (arrival (now (jobs .entry)) j) t place (place .standing)) ⌝ }
 {
     let job = job_at(jobs, j);
     let here = has_arrived(jobs, t, j);
     let standing = place.standing;
-    is_sound(
+    let sound = is_sound(
         is_se(mode),
         here,
         job.arrival,
@@ -82,7 +105,8 @@ fn is_sound_at(mode: Mode, jobs: &[u32], t: u32, j: u32, place: Place) -> bool
         t,
         place.done,
         standing,
-    )
+    );
+    sound & is_accounted(job.arrival, t, place)
 }
 
 // Whether the record is consistent with the jobs.
@@ -126,7 +150,12 @@ fn fresh_place(jobs: &[u32], j: u32) -> Place
         job.execution,
         0,
     );
-    Place { done: 0, standing }
+    Place {
+        done: 0,
+        suspended: 0,
+        waited: 0,
+        standing,
+    }
 }
 
 // t = 0 and nothing done.

@@ -86,7 +86,7 @@ impl Record {
         let seen = View::at(self, tasks, jobs);
         let entry = seen.choice(tasks, jobs);
         let ended = ended_word(seen, self, mode, entry, tasks, jobs);
-        let record = self.after(entry, ended, jobs);
+        let record = self.after(seen.ticked(entry, ended, jobs), jobs);
         let ones = bits::ones(seen.ready);
         Stepped {
             outcome: Outcome::Done,

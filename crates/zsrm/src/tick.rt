@@ -5,8 +5,9 @@ ghost use lib.Dec.{ltb};
 ghost use Prim.Native.Nat.{_≤_};
 ghost use Rattle.tables.specs.Tables.{jobCount, lists};
 ghost use Rattle.zsrm.specs.Tick.{unfinished, alive, jobWord};
-ghost use Rattle.zsrm.specs.Code.View.{isPast, pastWord, hasPriority, priorityWord, lowestOf, overruns, overrunWord, view, chosen, lessCriticalIn, lessCriticalWord, greatestCriticality};
-use crate::next::done_after;
+ghost use Rattle.zsrm.specs.Code.View.{isPast, pastWord, hasPriority, priorityWord, lowestOf, overruns, overrunWord, view, chosen, waitingWord, tickedBy, lessCriticalIn, lessCriticalWord, greatestCriticality};
+use crate::next::Ticked;
+use crate::next::one_more_if;
 use crate::record::Record;
 use crate::record::Standing;
 use tables::Criticality;
@@ -18,10 +19,11 @@ use tables::nominal_of;
 use tables::priority_of;
 use tables::zero_slack_instant;
 
-// The jobs alive, past zero slack and eligible, and the ready word: bit p for priority p.
+// The jobs alive, past zero slack, suspended and eligible, and the ready word: bit p for priority p.
 pub(crate) struct View {
     pub alive: u64,
     pub past: u64,
+    pub suspended: u64,
     pub eligible: u64,
     pub ready: u64,
 }
@@ -173,7 +175,7 @@ fn lowest_of(among: u64, p: Priority, tasks: &[u32], jobs: &[u32]) -> u16
 fn overruns(among: u64, entry: u16, j: u32, done: u32, tasks: &[u32], jobs: &[u32]) -> bool
     ensures { λ r. ⌜ r ≡ overruns (lists (now (tasks .entry)) (now (jobs .entry))) among entry j done ⌝ }
 {
-    let now_done = done_after(done, (entry as u32) == j);
+    let now_done = one_more_if((entry as u32) == j, done);
     bits::has_bit(among, j) & ((nominal_of(tasks, jobs, j) as u64) < now_done)
 }
 
@@ -194,8 +196,19 @@ pub(crate) fn overrun_word(rec: Record, among: u64, entry: u16, tasks: &[u32], j
     word
 }
 
+// The jobs of a set that wait while the entry runs: all but the entry, where it is a job.
+fn waiting_word(among: u64, entry: u16, jobs: &[u32]) -> u64
+    ensures { λ r. ⌜ r ≡ waitingWord (now (jobs .entry)) among entry ⌝ }
+{
+    if (entry as usize) < job_count(jobs) {
+        bits::without(among, bits::with_bit(0, entry as u32))
+    } else {
+        0
+    }
+}
+
 impl View {
-    // What a tick sees of a record: the jobs alive, past zero slack and eligible, and the ready word.
+    // What a tick sees of a record: the jobs alive, past zero slack, suspended and eligible, and the ready word.
     pub(crate) fn at(rec: Record, tasks: &[u32], jobs: &[u32]) -> View
         requires { ⌜ jobCount (now jobs) ≤ 64 ⌝ }
         ensures { λ r. ⌜ r ≡ view (lists (now (tasks .entry)) (now (jobs .entry))) rec ⌝ }
@@ -209,6 +222,7 @@ impl View {
         View {
             alive,
             past,
+            suspended,
             eligible,
             ready,
         }
@@ -225,5 +239,18 @@ impl View {
             tasks,
             jobs,
         )
+    }
+
+    // What the tick does in which the entry runs and the jobs of a word are ended.
+    pub(crate) fn ticked(self, entry: u16, ended: u64, jobs: &[u32]) -> Ticked
+        ensures { λ r. ⌜ r ≡ tickedBy (now (jobs .entry)) self entry ended ⌝ }
+    {
+        let waiting = waiting_word(self.eligible, entry, jobs);
+        Ticked {
+            entry,
+            suspended: self.suspended,
+            waiting,
+            ended,
+        }
     }
 }

@@ -2,21 +2,22 @@
 use Prim.Native.Nat.{_+_, _<_, suc, ℕ, _≤_}
 use mathlib.Core.Bool.{false, true}
 use mathlib.Core.Path.{ap, refl, _∙_, _≡_}
-use mathlib.Core.Logic.{Iff·trans, _↔_, _≢_}
+use mathlib.Core.Logic.{Iff·trans, _↔_, _≢_, ⊎-elim}
 use native.Mathlib.Decide.{ℕ-discrete}
 use native.Mathlib.Omega.{arith}
 use Rattle.bits.proofs.Bools.{clash, passed, passes, and-true, not-of}
+use Rattle.zsrm.specs.declared.record.Place.{Place}
 use Rattle.zsrm.specs.declared.record.Record.{Record}
 use Rattle.zsrm.specs.declared.record.Standing.{Standing}
 use Rattle.zsrm.specs.declared.record.Standing.the-variants.{Ended, Finished, NotArrived, Unfinished}
 use Rattle.zsrm.specs.Legal.{candidateOrIdle}
-use Rattle.zsrm.specs.Record.{arrived, consistent, doneAt, fresh, opening, soundAt, soundPlace, standingAt}
+use Rattle.zsrm.specs.Record.{accounted, arrived, consistent, doneAt, fresh, freshPlace, opening, placeAt, soundAt, soundPlace, spent, standingAt, suspendedAt, waitedAt}
 use Rattle.zsrm.specs.Given.{isSE, Given}
 use Rattle.tables.specs.Tables.{arrival, execution, jobCount}
-use Rattle.zsrm.specs.Tick.{advanced, alive, doneAfter, finishes, standingAfter, unfinished}
-use Rattle.zsrm.proofs.Laws.Places.{done-advanced, done-fresh, standing-advanced, standing-fresh, tick-advanced, tick-fresh, away-reads, opens}
-use Rattle.bits.proofs.Readings.{and-reads, every-reads, le-reads}
-use Rattle.zsrm.proofs.Laws.Tick.{done-dead, done-idle, done-most, ends-by, goes-on, se-reads, finishing, is-SE}
+use Rattle.zsrm.specs.Tick.{advanced, alive, doneAfter, finishes, placeAfter, standingAfter, unfinished}
+use Rattle.zsrm.proofs.Laws.Places.{done-advanced, done-fresh, place-advanced, place-fresh, standing-advanced, standing-fresh, tick-advanced, tick-fresh, away-reads, opens}
+use Rattle.bits.proofs.Readings.{and-reads, eq-reads, every-reads, le-reads}
+use Rattle.zsrm.proofs.Laws.Tick.{done-dead, done-idle, done-most, ends-by, goes-on, none-raised, one-raised, se-reads, finishing, is-SE}
 use Rattle.zsrm.specs.declared.mode.Mode.the-variants.{SE}
 
 -- "It is consistent when", of the place j at tick t, by its standing
@@ -80,16 +81,31 @@ module _ (g : Given) (t j done : ℕ) where
       back (Finished f) w = let a = since (w .here) in search passes depth 7
       back (Ended e) w = let a = since (w .here) in let s = se-reads (g .mode) .1 (w .se) in search passes depth 9
 
+-- "For an arrived job, done plus both is t, the finishing instant, or the ending tick plus 1, minus the arrival. Before arrival both are 0."
+abbrev pub Accounted : ℕ → ℕ → Place → Standing → Type 0
+Accounted a t p NotArrived = (p .suspended ≡ 0) × (p .waited ≡ 0)
+Accounted a t p Unfinished = a + spent p ≡ t
+Accounted a t p (Finished f) = a + spent p ≡ f
+Accounted a t p (Ended e) = a + spent p ≡ e + 1
+
+accounted-reads : (a t : ℕ) (p : Place) (s : Standing) → accounted a t p s ≡ true ↔ Accounted a t p s
+accounted-reads a t p NotArrived = and-reads (eq-reads _ _) (eq-reads _ _)
+accounted-reads a t p Unfinished = eq-reads _ _
+accounted-reads a t p (Finished f) = eq-reads _ _
+accounted-reads a t p (Ended e) = eq-reads _ _
+
 -- and: "t ≤ 16,384"
 pub record Consistent (g : Given) (r : Record) : Type 0 where
   pub tick-most : r .tick ≤ 16384
   pub places : (j : ℕ) → j < 64 → Sound g (r .tick) j (doneAt r j) (standingAt r j)
+  pub accounts : (j : ℕ) → j < 64 → Accounted (arrival (g .lists .jobs) j) (r .tick) (placeAt r j) (standingAt r j)
 
 pub consistency : (g : Given) (r : Record) → consistent g r ≡ true ↔ Consistent g r
 unfolding consistent soundAt
 consistency g r =
-    Iff·trans (and-reads (le-reads _ _) (every-reads 64 (λ j. sound-reads g (r .tick) j (doneAt r j) (standingAt r j))))
-    (λ w. record { tick-most = w .0; places = w .1 }, λ w. (w .tick-most, w .places))
+    Iff·trans (and-reads (le-reads _ _) (every-reads 64 (λ j.
+    and-reads (sound-reads g (r .tick) j (doneAt r j) (standingAt r j)) (accounted-reads (arrival (g .lists .jobs) j) (r .tick) (placeAt r j) (standingAt r j)))))
+    (λ w. record { tick-most = w .0; places = λ j l. w .1 j l .0; accounts = λ j l. w .1 j l .1 }, λ w. (w .tick-most, λ j l. (w .places j l, w .accounts j l)))
 
 -- a place where nothing has run is sound with nothing done
 opening-sound : (g : Given) (t j done : ℕ) → done ≡ 0 → Sound g t j done (opening (g .lists .jobs) t j)
@@ -99,12 +115,20 @@ opening-sound g t j done z =
     (λ l a c. record { here = record { job = l; room = omega arith }; short = omega arith })
     (λ w. record { away = w; none = z })
 
+-- and accounted for, if its job has not arrived before
+opening-accounted : (g : Given) (t j : ℕ) (p : Place) → (j < jobCount (g .lists .jobs) → t ≤ arrival (g .lists .jobs) j) → p .done ≡ 0 → p .suspended ≡ 0 → p .waited ≡ 0
+    → Accounted (arrival (g .lists .jobs) j) t p (opening (g .lists .jobs) t j)
+opening-accounted g t j p h d s w =
+    opens (g .lists .jobs) t j (Accounted (arrival (g .lists .jobs) j) t p) (λ l a c. omega arith) (λ l a c. omega (arith, h l)) (λ _. (s, w))
+
 pub fresh-consistent : (g : Given) → consistent g (fresh (g .lists .jobs)) ≡ true
+unfolding freshPlace
 fresh-consistent g =
     consistency g (fresh (g .lists .jobs)) .1
     (record {
       tick-most = rw tick-fresh (omega arith);
       places = λ j l. rw (done-fresh, standing-fresh, tick-fresh) (opening-sound g 0 j 0 refl);
+      accounts = λ j l. rw (standing-fresh, place-fresh, tick-fresh) (opening-accounted g 0 j (freshPlace (g .lists .jobs) j) (λ _. omega arith) refl refl refl);
     })
 
 -- from a sound place to a sound place
@@ -139,6 +163,31 @@ module _ (g : Given) (r : Record) (e : ℕ) (may : candidateOrIdle g r e ≡ tru
         se = w .se;
       }
 
+  -- from an accounted place to an accounted place: a job alive has spent one more tick, every other job none
+  spent-on : j < jobCount (g .lists .jobs) → alive r j ≡ true → spent (placeAfter g r e j) ≡ suc (spent (placeAt r j))
+  unfolding placeAfter doneAt suspendedAt waitedAt
+  spent-on k a =
+      ⊎-elim (λ w. omega (arith, w .done-by, w .suspended-by, w .waited-by))
+      (⊎-elim (λ w. omega (arith, w .done-by, w .suspended-by, w .waited-by)) (λ w. omega (arith, w .done-by, w .suspended-by, w .waited-by)))
+      (one-raised g r e may j l k a)
+
+  spent-same : alive r j ≡ false → spent (placeAfter g r e j) ≡ spent (placeAt r j)
+  unfolding placeAfter doneAt suspendedAt waitedAt
+  spent-same a = let w = none-raised g r e may j l a in omega (arith, w .done-by, w .suspended-by, w .waited-by)
+
+  keeps-account : (s : Standing) → standingAt r j ≡ s → Sound g (r .tick) j (doneAt r j) s
+      → Accounted (arrival (g .lists .jobs) j) (r .tick) (placeAt r j) s
+      → Accounted (arrival (g .lists .jobs) j) (suc (r .tick)) (placeAfter g r e j) (standingAfter g r e j s)
+  unfolding standingAfter alive placeAfter doneAt suspendedAt waitedAt
+  keeps-account NotArrived q w h =
+      let z = none-raised g r e may j l (ap unfinished q) in
+      opening-accounted g (suc (r .tick)) j (placeAfter g r e j) (w .away) (omega (arith, z .done-by, w .none)) (omega (arith, z .suspended-by, h .0)) (omega (arith, z .waited-by, h .1))
+  keeps-account Unfinished q w h =
+      let more = spent-on (w .here .job) (ap unfinished q) in
+      goes-on g r e (Accounted (arrival (g .lists .jobs) j) (suc (r .tick)) (placeAfter g r e j)) j (λ p f. omega (arith, more, h)) (λ x y. omega (arith, more, h)) (λ x y. omega (arith, more, h))
+  keeps-account (Finished f) q w h = omega (arith, spent-same (ap unfinished q), h)
+  keeps-account (Ended x) q w h = omega (arith, spent-same (ap unfinished q), h)
+
 pub advanced-consistent : (g : Given) (r : Record) (e : ℕ) → r .tick < 16384 → candidateOrIdle g r e ≡ true → consistent g r ≡ true
     → consistent g (advanced g r e) ≡ true
 advanced-consistent g r e b may ok =
@@ -148,6 +197,9 @@ advanced-consistent g r e b may ok =
       places = λ j l.
           rw (done-advanced, standing-advanced, tick-advanced)
           (keeps-place g r e may j l (standingAt r j) refl (consistency g r .0 ok .places j l));
+      accounts = λ j l.
+          rw (standing-advanced, place-advanced, tick-advanced)
+          (keeps-account g r e may j l (standingAt r j) refl (consistency g r .0 ok .places j l) (consistency g r .0 ok .accounts j l));
     })
 
 module _ (g : Given) (r : Record) (ok : consistent g r ≡ true) where
@@ -158,15 +210,20 @@ module _ (g : Given) (r : Record) (ok : consistent g r ≡ true) where
   pub consistent-tick : r .tick ≤ 16384
   consistent-tick = consistency g r .0 ok .tick-most
 
-  -- nothing done exceeds the tick
-  pub done-tick : (j : ℕ) → j < 64 → doneAt r j ≤ r .tick
-  done-tick j l = go (standingAt r j) (sound-at j l)
+  -- and accounted for
+  pub account-at : (j : ℕ) → j < 64 → Accounted (arrival (g .lists .jobs) j) (r .tick) (placeAt r j) (standingAt r j)
+  account-at = consistency g r .0 ok .accounts
+
+  -- nothing spent exceeds the tick
+  pub spent-tick : (j : ℕ) → j < 64 → spent (placeAt r j) ≤ r .tick
+  unfolding doneAt
+  spent-tick j l = go (standingAt r j) (sound-at j l) (account-at j l)
     where
-      go : (s : Standing) → Sound g (r .tick) j (doneAt r j) s → doneAt r j ≤ r .tick
-      go NotArrived w = omega arith
-      go Unfinished w = omega arith
-      go (Finished f) w = omega arith
-      go (Ended e) w = omega arith
+      go : (s : Standing) → Sound g (r .tick) j (doneAt r j) s → Accounted (arrival (g .lists .jobs) j) (r .tick) (placeAt r j) s → spent (placeAt r j) ≤ r .tick
+      go NotArrived w h = omega (arith, w .none, h .0, h .1)
+      go Unfinished w h = omega arith
+      go (Finished f) w h = omega (arith, w .by)
+      go (Ended e) w h = omega (arith, w .by)
 
   -- a job that has arrived and is neither finished nor ended is alive
   pub pending-alive : (j : ℕ) → j < jobCount (g .lists .jobs) → jobCount (g .lists .jobs) ≤ 64 → arrival (g .lists .jobs) j ≤ r .tick

@@ -11,26 +11,35 @@ use borrow.Author.Tests.{le-ltb, lt-ltb, ltb-false, ltb-true}
 use Rattle.bits.specs.Below.{bit, listFrom}
 use Rattle.bits.proofs.Arrays.{Written, written-all, written-none}
 use Rattle.bits.proofs.Below.{list-same}
+use Rattle.zsrm.specs.declared.next.Ticked.{Ticked}
 use Rattle.zsrm.specs.declared.record.Place.{Place}
 use Rattle.zsrm.specs.declared.record.Record.{Record}
 use Rattle.zsrm.specs.declared.record.Standing.{Standing}
 use Rattle.zsrm.specs.declared.record.Standing.the-variants.{Ended, Finished, NotArrived, Unfinished}
+use Rattle.zsrm.specs.declared.tick.View.{View}
 use Rattle.tables.specs.declared.fields.Job.{Job}
 use Rattle.tables.specs.Fields.{jobAt}
 use Rattle.zsrm.specs.Legal.{candidateOrIdle}
 use Rattle.zsrm.specs.Code.Next.{nextAt, nextPlace, nextRecord, nextStanding}
-use Rattle.zsrm.specs.Record.{arrived, arriving, blank, consistent, doneAt, empty, fresh, freshPlace, opening, placeAt, standingAt}
+use Rattle.zsrm.specs.Code.View.{tickedBy, view}
+use Rattle.zsrm.specs.Record.{arrived, arriving, blank, consistent, doneAt, empty, fresh, freshPlace, opening, placeAt, spent, standingAt, suspendedAt, waitedAt}
 use Rattle.zsrm.specs.Given.{Given}
 use Rattle.tables.specs.Tables.{arrival, execution, jobCount}
-use Rattle.zsrm.specs.Tick.{advanced, alive, doneAfter, endedWord, ends, finishes, goesOn, placeAfter, standingAfter, unfinished}
-use Rattle.zsrm.proofs.Laws.Consistent.{beyond-waits, done-tick}
-use Rattle.zsrm.proofs.Laws.View.{jobWord-bit}
-use Rattle.zsrm.proofs.Laws.Tick.{done-dead}
+use Rattle.zsrm.specs.Tick.{advanced, alive, doneAfter, endedWord, ends, finishes, goesOn, placeAfter, standingAfter, suspended, suspendedAfter, unfinished, waitedAfter, waits}
+use Rattle.zsrm.proofs.Laws.Consistent.{beyond-waits, spent-tick}
+use Rattle.zsrm.proofs.Laws.View.{jobWord-bit, ticked, ticked-made}
+use Rattle.zsrm.proofs.Laws.Tick.{none-raised}
 use Rattle.bits.proofs.Bools.{by-cond}
 
 -- a record is its tick and its places
 pub same-record : (r s : Record) → r .tick ≡ s .tick → r .places ≡ s .places → r ≡ s
 same-record r s t p = ap₂ (λ (t : ℕ) (l : List Place). let x : Record = record { tick = t; places = l } in x) t p
+
+-- a place is its three numbers and its standing
+pub same-place : (p q : Place) → p .done ≡ q .done → p .suspended ≡ q .suspended → p .waited ≡ q .waited → p .standing ≡ q .standing → p ≡ q
+same-place p q d s w t =
+    ap₂ (λ (d s : ℕ). let x : Place = record { done = d; suspended = s; waited = p .waited; standing = p .standing } in x) d s
+    ∙ ap₂ (λ (w : ℕ) (t : Standing). let x : Place = record { done = q .done; suspended = q .suspended; waited = w; standing = t } in x) w t
 
 pub fresh-begun : (jobs : List ℕ) (out : Record) → out ≡ blank → (out .tick ≡ 0) × Written empty (freshPlace jobs) (blank .places) (out .places) 64 0
 unfolding blank
@@ -44,37 +53,37 @@ fresh-made jobs out j t w m =
     (written-all empty (freshPlace jobs) (blank .places) (out .places) 64 j w (λ k a b. absurd (omega arith)))
 
 -- the places as the loop has made them so far: those of the jobs below j are the next ones
-abbrev pub Made : List ℕ → Record → ℕ → ℕ → Record → ℕ → Type 0
-Made jobs r e ended out j = (out .tick ≡ r .tick + 1) × Written empty (nextAt jobs r e ended) (r .places) (out .places) 64 j
+abbrev pub Made : List ℕ → Record → Ticked → Record → ℕ → Type 0
+Made jobs r d out j = (out .tick ≡ r .tick + 1) × Written empty (nextAt jobs r d) (r .places) (out .places) 64 j
 
 -- the place of job j is as it was until it is written
-pub made-held : (jobs : List ℕ) (r : Record) (e ended : ℕ) (out : Record) (j : ℕ) → Made jobs r e ended out j → j < 64 → placeAt out j ≡ placeAt r j
+pub made-held : (jobs : List ℕ) (r : Record) (d : Ticked) (out : Record) (j : ℕ) → Made jobs r d out j → j < 64 → placeAt out j ≡ placeAt r j
 unfolding placeAt
-made-held jobs r e ended out j w l = w .1 .each j l ∙ rw (le-ltb j j (omega arith))
+made-held jobs r d out j w l = w .1 .each j l ∙ rw (le-ltb j j (omega arith))
 
 -- the next place of job j
-pub next-at : (jobs : List ℕ) (r : Record) (e ended j : ℕ) (p v : Place) (b : Bool) (x : Job) → j < jobCount jobs → p ≡ placeAt r j → b ≡ bit ended j → x ≡ jobAt jobs j
-    → v ≡ nextPlace (r .tick) (eqb e j) b (x .arrival) (x .execution) p → v ≡ nextAt jobs r e ended j
+pub next-at : (jobs : List ℕ) (r : Record) (d : Ticked) (j : ℕ) (p v : Place) (x : Job) → j < jobCount jobs → p ≡ placeAt r j → x ≡ jobAt jobs j
+    → v ≡ nextPlace (r .tick) d j (x .arrival) (x .execution) p → v ≡ nextAt jobs r d j
 unfolding nextAt
-next-at jobs r e ended j p v b x l qp qb qx qv =
-    qv
-    ∙ ap₂ (λ (y : Job) (q : Place). nextPlace (r .tick) (eqb e j) b (y .arrival) (y .execution) q) qx qp
-    ∙ ap (λ (d : Bool). nextPlace (r .tick) (eqb e j) d (arrival jobs j) (execution jobs j) (placeAt r j)) qb ∙ rw (lt-ltb j (jobCount jobs) l)
+next-at jobs r d j p v x l qp qx qv =
+    qv ∙ ap₂ (λ (y : Job) (q : Place). nextPlace (r .tick) d j (y .arrival) (y .execution) q) qx qp ∙ rw (lt-ltb j (jobCount jobs) l)
 
-pub next-made : (jobs : List ℕ) (r : Record) (e ended : ℕ) (out : Record) (j : ℕ) → Made jobs r e ended out j → jobCount jobs ≤ j → out ≡ nextRecord jobs r e ended
+pub next-made : (jobs : List ℕ) (r : Record) (d : Ticked) (out : Record) (j : ℕ) → Made jobs r d out j → jobCount jobs ≤ j → out ≡ nextRecord jobs r d
 unfolding nextRecord nextAt placeAt
-next-made jobs r e ended out j w m =
-    same-record out (record { tick = r .tick + 1; places = listFrom 0 64 (nextAt jobs r e ended) }) (w .0)
-    (written-all empty (nextAt jobs r e ended) (r .places) (out .places) 64 j (w .1) (λ k a b. rw (le-ltb k (jobCount jobs) (omega arith))))
+next-made jobs r d out j w m =
+    same-record out (record { tick = r .tick + 1; places = listFrom 0 64 (nextAt jobs r d) }) (w .0)
+    (written-all empty (nextAt jobs r d) (r .places) (out .places) 64 j (w .1) (λ k a b. rw (le-ltb k (jobCount jobs) (omega arith))))
 
 -- the record after a tick whose entry may run is the one that document 01 advances to
 module _ (g : Given) (r : Record) (e : ℕ) (few : jobCount (g .lists .jobs) ≤ 64) (sound : consistent g r ≡ true) (may : candidateOrIdle g r e ≡ true) where
   -- the place of a job
   job-next : (j : ℕ) → j < jobCount (g .lists .jobs)
-      → nextPlace (r .tick) (eqb e j) (bit (endedWord g r e) j) (arrival (g .lists .jobs) j) (execution (g .lists .jobs) j) (placeAt r j) ≡ placeAfter g r e j
-  unfolding placeAfter doneAfter standingAfter goesOn finishes opening arriving arrived doneAt standingAt endedWord
+      → nextPlace (r .tick) (ticked g r e) j (arrival (g .lists .jobs) j) (execution (g .lists .jobs) j) (placeAt r j) ≡ placeAfter g r e j
+  unfolding placeAfter doneAfter suspendedAfter waitedAfter standingAfter goesOn finishes opening arriving arrived doneAt suspendedAt waitedAt standingAt endedWord
   job-next j l =
-      ap (λ (s : Standing). let p : Place = record { done = doneAt r j + cond (eqb e j) 1 0; standing = s } in p)
+      same-place (nextPlace (r .tick) (ticked g r e) j (arrival (g .lists .jobs) j) (execution (g .lists .jobs) j) (placeAt r j)) (placeAfter g r e j) refl
+      (ap (λ (b : Bool). suspendedAt r j + cond b 1 0) (jobWord-bit (g .lists .jobs) (suspended g r) j few l))
+      (ap (λ (b : Bool). waitedAt r j + cond b 1 0) (jobWord-bit (g .lists .jobs) (waits g r e) j few l))
       (go (standingAt r j) (lt-ltb j (jobCount (g .lists .jobs)) l) (jobWord-bit (g .lists .jobs) (ends g r e) j few l))
     where
       go : (s : Standing) → ltb j (jobCount (g .lists .jobs)) ≡ true → bit (endedWord g r e) j ≡ ends g r e j
@@ -87,24 +96,26 @@ module _ (g : Given) (r : Record) (e : ℕ) (few : jobCount (g .lists .jobs) ≤
 
   -- a place beyond the jobs stays: nothing there is alive, so nothing there runs
   beyond-next : (j : ℕ) → jobCount (g .lists .jobs) ≤ j → j < 64 → placeAt r j ≡ placeAfter g r e j
-  unfolding placeAfter standingAfter opening arrived alive standingAt doneAt
+  unfolding placeAfter standingAfter opening arrived alive standingAt doneAt suspendedAt waitedAt
   beyond-next j m l =
-      let waits = beyond-waits g r sound j m l in
-      ap₂ (λ (d : ℕ) (s : Standing). let p : Place = record { done = d; standing = s } in p) (sym (done-dead g r e may j l (ap unfinished waits)))
-      (waits ∙ sym (ap (standingAfter g r e j) waits ∙ rw (le-ltb j (jobCount (g .lists .jobs)) m)))
+      let away = beyond-waits g r sound j m l in
+      let none = none-raised g r e may j l (ap unfinished away) in
+      same-place (placeAt r j) (placeAfter g r e j) (omega (arith, none .done-by)) (omega (arith, none .suspended-by)) (omega (arith, none .waited-by))
+      (away ∙ sym (ap (standingAfter g r e j) away ∙ rw (le-ltb j (jobCount (g .lists .jobs)) m)))
 
-  next-advanced : nextRecord (g .lists .jobs) r e (endedWord g r e) ≡ advanced g r e
+  next-advanced : nextRecord (g .lists .jobs) r (ticked g r e) ≡ advanced g r e
   unfolding nextRecord nextAt advanced
   next-advanced =
       same-record _ (record { tick = suc (r .tick); places = listFrom 0 64 (placeAfter g r e) }) (add-one (r .tick))
-      (list-same 64 (nextAt (g .lists .jobs) r e (endedWord g r e)) (placeAfter g r e) (λ j l.
+      (list-same 64 (nextAt (g .lists .jobs) r (ticked g r e)) (placeAfter g r e) (λ j l.
       by-cond (λ p. p ≡ placeAfter g r e j) (ltb j (jobCount (g .lists .jobs))) _ _ (λ q. job-next j (ltb-true _ _ q)) (λ q. beyond-next j (ltb-false _ _ q) l)))
 
-  -- and so is the record that the code builds with the jobs that the tick ends
-  pub next-built : (next : Record) (ended : ℕ) → ended ≡ endedWord g r e → next ≡ nextRecord (g .lists .jobs) r e ended → next ≡ advanced g r e
-  next-built next ended p q = q ∙ ap (nextRecord (g .lists .jobs) r e) p ∙ next-advanced
+  -- and so is the record that the code builds with what it sees and what it ends
+  pub next-built : (next : Record) (v : View) (ended : ℕ) (d : Ticked) → v ≡ view (g .lists) r → ended ≡ endedWord g r e → d ≡ tickedBy (g .lists .jobs) v e ended
+      → next ≡ nextRecord (g .lists .jobs) r d → next ≡ advanced g r e
+  next-built next v ended d seen p h q = q ∙ ap (nextRecord (g .lists .jobs) r) (ticked-made g r v e few seen ended d p h) ∙ next-advanced
 
 -- what building it asks for
 pub next-fits : (g : Given) (r : Record) → jobCount (g .lists .jobs) ≤ 64 → r .tick < 16384 → consistent g r ≡ true
-    → (jobCount (g .lists .jobs) ≤ 64) × (r .tick < 16384) × ((j : ℕ) → j < 64 → doneAt r j ≤ 16384)
-next-fits g r few early sound = (few, early, λ j l. omega (arith, done-tick g r sound j l))
+    → (jobCount (g .lists .jobs) ≤ 64) × (r .tick < 16384) × ((j : ℕ) → j < 64 → spent (placeAt r j) ≤ 16384)
+next-fits g r few early sound = (few, early, λ j l. omega (arith, spent-tick g r sound j l))

@@ -11,9 +11,9 @@ use borrow.Author.Tests.{eqb-false, eqb-true, leb-false, lt-ltb}
 use Rattle.bits.proofs.Below.{getD-list}
 use Rattle.zsrm.specs.declared.record.Place.{Place}
 use Rattle.zsrm.specs.declared.record.Record.{Record}
-use Rattle.zsrm.specs.Record.{doneAt, empty, fresh, freshPlace, opening, placeAt, standingAt, arrived, arriving}
+use Rattle.zsrm.specs.Record.{doneAt, empty, fresh, freshPlace, opening, placeAt, standingAt, suspendedAt, waitedAt, arrived, arriving}
 use Rattle.zsrm.specs.Given.{Given}
-use Rattle.zsrm.specs.Tick.{advanced, doneAfter, placeAfter, standingAfter, alive, goesOn, unfinished}
+use Rattle.zsrm.specs.Tick.{advanced, doneAfter, placeAfter, standingAfter, suspendedAfter, waitedAfter, alive, goesOn, unfinished}
 use Rattle.bits.proofs.Bools.{and-false, by-cond, clash, fails}
 use Rattle.bits.proofs.Readings.{and-reads, le-reads, lt-reads}
 use Rattle.tables.specs.Tables.{arrival, execution, jobCount}
@@ -24,13 +24,21 @@ pub tick-fresh : (jobs : List ℕ) → fresh jobs .tick ≡ 0
 unfolding fresh
 tick-fresh jobs = refl
 
+pub place-fresh : (jobs : List ℕ) (j : ℕ) → j < 64 → placeAt (fresh jobs) j ≡ freshPlace jobs j
+unfolding placeAt fresh
+place-fresh jobs j h = getD-list 64 (freshPlace jobs) j empty h
+
 pub done-fresh : (jobs : List ℕ) (j : ℕ) → j < 64 → doneAt (fresh jobs) j ≡ 0
-unfolding doneAt placeAt fresh freshPlace
-done-fresh jobs j h = ap (λ (x : Place). x .done) (getD-list 64 (freshPlace jobs) j empty h)
+unfolding doneAt freshPlace
+done-fresh jobs j h = ap (λ (x : Place). x .done) (place-fresh jobs j h)
+
+pub suspended-fresh : (jobs : List ℕ) (j : ℕ) → j < 64 → suspendedAt (fresh jobs) j ≡ 0
+unfolding suspendedAt freshPlace
+suspended-fresh jobs j h = ap (λ (x : Place). x .suspended) (place-fresh jobs j h)
 
 pub standing-fresh : (jobs : List ℕ) (j : ℕ) → j < 64 → standingAt (fresh jobs) j ≡ opening jobs 0 j
-unfolding standingAt placeAt fresh freshPlace
-standing-fresh jobs j h = ap (λ (x : Place). x .standing) (getD-list 64 (freshPlace jobs) j empty h)
+unfolding standingAt freshPlace
+standing-fresh jobs j h = ap (λ (x : Place). x .standing) (place-fresh jobs j h)
 
 pub alive-unfinished : (r : Record) (j : ℕ) → alive r j ≡ true → standingAt r j ≡ Unfinished
 unfolding alive
@@ -47,13 +55,25 @@ module _ (g : Given) (r : Record) (e : ℕ) where
   unfolding advanced
   tick-advanced = refl
 
+  pub place-advanced : (j : ℕ) → j < 64 → placeAt (advanced g r e) j ≡ placeAfter g r e j
+  unfolding placeAt advanced
+  place-advanced j h = getD-list 64 (placeAfter g r e) j empty h
+
   pub done-advanced : (j : ℕ) → j < 64 → doneAt (advanced g r e) j ≡ doneAfter g r e j
-  unfolding doneAt placeAt advanced placeAfter
-  done-advanced j h = ap (λ (x : Place). x .done) (getD-list 64 (placeAfter g r e) j empty h)
+  unfolding doneAt placeAfter
+  done-advanced j h = ap (λ (x : Place). x .done) (place-advanced j h)
+
+  pub suspended-advanced : (j : ℕ) → j < 64 → suspendedAt (advanced g r e) j ≡ suspendedAfter g r e j
+  unfolding suspendedAt placeAfter
+  suspended-advanced j h = ap (λ (x : Place). x .suspended) (place-advanced j h)
+
+  pub waited-advanced : (j : ℕ) → j < 64 → waitedAt (advanced g r e) j ≡ waitedAfter g r e j
+  unfolding waitedAt placeAfter
+  waited-advanced j h = ap (λ (x : Place). x .waited) (place-advanced j h)
 
   pub standing-advanced : (j : ℕ) → j < 64 → standingAt (advanced g r e) j ≡ standingAfter g r e j (standingAt r j)
-  unfolding standingAt placeAt advanced placeAfter
-  standing-advanced j h = ap (λ (x : Place). x .standing) (getD-list 64 (placeAfter g r e) j empty h)
+  unfolding standingAt placeAfter
+  standing-advanced j h = ap (λ (x : Place). x .standing) (place-advanced j h)
 
   -- of a job alive in the tick
   pub standing-alive : (j : ℕ) → j < 64 → alive r j ≡ true → standingAt (advanced g r e) j ≡ goesOn g r e j

@@ -22,15 +22,15 @@ use Rattle.zsrm.specs.Said.{claimSaid, verdictSaid, witnessSaid}
 use Rattle.tables.specs.Said.{outcomeSaid}
 use Rattle.zsrm.specs.Code.Claims.{FitsIn}
 use Rattle.zsrm.specs.Legal.{claim, isLegal, legalLength}
-use Rattle.zsrm.specs.Record.{blank, consistent, fresh, standingAt, check11, check12}
+use Rattle.zsrm.specs.Record.{blank, consistent, doneAt, fresh, standingAt, suspendedAt, waitedAt, check11, check12}
 use Rattle.zsrm.specs.Run.{entriesBy, replay, replayed, runEntries, runRecord, finalBy}
 use Rattle.zsrm.specs.Given.{Given}
-use Rattle.tables.specs.Tables.{arrival, criticality, deadline, idle, jobCount, nominal, overload, period, priority, taskCount, offset}
+use Rattle.tables.specs.Tables.{arrival, criticality, deadline, execution, idle, jobCount, nominal, overload, period, priority, taskCount, offset}
 use Rattle.zsrm.specs.Tick.{advanced, choice}
 use Rattle.zsrm.specs.Topmost.{Topmost}
 use Rattle.zsrm.specs.Verdict.{Part, missed, part, verdict, witness}
 use Rattle.zsrm.proofs.Laws.Answers.{accepted, is-legal, run-given, verdict-answered, whole-legal}
-use Rattle.zsrm.proofs.Laws.Consistent.{fresh-consistent}
+use Rattle.zsrm.proofs.Laws.Consistent.{account-at, fresh-consistent, sound-at}
 use Rattle.zsrm.proofs.Laws.Exactly.{answered}
 use Rattle.zsrm.proofs.Laws.Going.{Going, going-more, going-none, steps-entry}
 use Rattle.zsrm.proofs.Laws.Places.{tick-fresh}
@@ -148,6 +148,19 @@ module _ (g : Given) (horizon : ℕ) (schedule : List ℕ) (legal : claimSaid (c
     met-not-missed w h =
         let met : verdict (g .lists) (replayed g schedule) j ≡ verdicts.Met = sym taken ∙ verdict-said (verdictAnswer g (replayed g schedule) j) verdicts.Met h in
         ap witnessSaid (witness-taken ∙ witness-reads g schedule j witnesses.NotMissed .1 (whole-legal g schedule .1 (is-legal g horizon schedule legal .legal), w, ap missed met))
+
+    -- a finished job has spent its execution time, and what is accounted for beside it
+    pub response-made : (f : ℕ) → standingAt (replayed g schedule) j ≡ Finished f
+        → arrival (g .lists .jobs) j + execution (g .lists .jobs) j + suspendedAt (replayed g schedule) j + waitedAt (replayed g schedule) j ≡ f
+    unfolding doneAt suspendedAt waitedAt
+    response-made f q =
+        let c = is-legal g horizon schedule legal in
+        let a = c .input in
+        let few = lists-few (g .lists) (a .lists) in
+        let ok = replayed-consistent g schedule (omega arith) (c .legal) in
+        let s = rw q at (sound-at g (replayed g schedule) ok j (omega arith)) in
+        let w = rw q at (account-at g (replayed g schedule) ok j (omega arith)) in
+        omega (arith, s .whole, w)
 
     -- the part that is shown of a finished job
     shown : (f : ℕ) → standingAt (replayed g schedule) j ≡ Finished f

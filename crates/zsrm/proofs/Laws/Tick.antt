@@ -1,22 +1,23 @@
 -- The laws of one tick, at any record, whatever led to it: who is past zero slack, eligible, a candidate; that a legal entry serves
--- every job past zero slack; what the tick does to a job alive in it; that the job that runs is not ended.
+-- every job past zero slack; what the tick does to a job alive in it; that the job that runs is not ended; which number each tick raises.
 use Prim.Native.Nat.{_<_, ℕ, _≤_, suc, _+_}
-use mathlib.Core.Bool.{_&&_, false, true}
-use mathlib.Core.Logic.{_⊎_, ⊎-elim, Iff·rfl, _↔_, _≢_, Iff·trans}
-use mathlib.Core.Path.{_≡_, refl}
+use mathlib.Core.Bool.{_&&_, Bool, cond, false, not, true}
+use mathlib.Core.Logic.{_⊎_, inl, inr, ⊎-elim, Iff·rfl, _↔_, _≢_, Iff·trans}
+use mathlib.Core.Path.{_≡_, ap, refl}
+use native.Mathlib.Decide.{ℕ-discrete}
 use native.Mathlib.Omega.{arith}
 use lib.Dec.{eqb, ltb}
-use borrow.Author.Tests.{not-true, eq-eqb, ne-eqb}
+use borrow.Author.Tests.{not-true, eq-eqb, eqb-false, ne-eqb}
 use Rattle.bits.proofs.Below.{some-found, some-true}
-use Rattle.bits.proofs.Bools.{and-false, and-false-right, and-left, and-right, and-true, clash, fails, not-of, passed, by-cond}
+use Rattle.bits.proofs.Bools.{and-false, and-false-right, and-left, and-right, and-true, clash, either, fails, not-of, passed, by-cond}
 use Rattle.bits.proofs.Most.{Most, most}
 use Rattle.zsrm.specs.declared.record.Record.{Record}
 use Rattle.zsrm.specs.Legal.{candidateOrIdle}
 use Rattle.zsrm.specs.Given.{Given, isSE}
 use Rattle.tables.specs.Tables.{idle, jobCount, jobCriticality, jobPriority, zeroSlackInstant, execution}
-use Rattle.zsrm.specs.Tick.{alive, candidate, eligible, ends, higherPriority, moreCritical, over, pastZeroSlack, someJob, suspended, doneAfter, finishes, goesOn}
-use Rattle.bits.proofs.Readings.{and-reads, eq-reads, lt-reads, not-reads, or-reads, and-fails, lt-fails, none-reads, le-reads}
-use Rattle.zsrm.specs.Record.{doneAt}
+use Rattle.zsrm.specs.Tick.{alive, candidate, eligible, ends, higherPriority, moreCritical, over, pastZeroSlack, someJob, suspended, suspendedAfter, waitedAfter, waits, doneAfter, finishes, goesOn}
+use Rattle.bits.proofs.Readings.{and-reads, eq-reads, lt-reads, not-reads, or-reads, and-fails, lt-fails, none-reads, some-reads, le-reads}
+use Rattle.zsrm.specs.Record.{doneAt, suspendedAt, waitedAt}
 use Rattle.zsrm.specs.declared.record.Standing.{Standing}
 use Rattle.zsrm.specs.declared.record.Standing.the-variants.{Ended, Finished, Unfinished}
 use Rattle.zsrm.specs.declared.mode.Mode.{Mode}
@@ -27,6 +28,11 @@ module _ (g : Given) (r : Record) where
   pub past-exactly : (j : ℕ) → pastZeroSlack g r j ≡ true ↔ (alive r j ≡ true) × (zeroSlackInstant (g .lists) j ≤ r .tick)
   unfolding pastZeroSlack
   past-exactly j = and-reads Iff·rfl (le-reads _ _)
+
+  pub suspended-exactly : (j : ℕ) → suspended g r j ≡ true
+      ↔ (alive r j ≡ true) × ((i : ℕ) × (i < jobCount (g .lists .jobs)) × ((pastZeroSlack g r i ≡ true) × (jobCriticality (g .lists) j < jobCriticality (g .lists) i)))
+  unfolding suspended someJob moreCritical
+  suspended-exactly j = and-reads Iff·rfl (some-reads _ (λ i. and-reads Iff·rfl (lt-reads _ _)))
 
   -- a job is eligible exactly when it is alive, with no more critical job past zero slack
   pub eligible-exactly : (j : ℕ) → eligible g r j ≡ true
@@ -153,3 +159,71 @@ module _ (g : Given) (r : Record) (e : ℕ) where
   pub eligible-unended : (j : ℕ) → eligible g r j ≡ true → ends g r e j ≡ false
   eligible-unended j h =
       fails (ends g r e j) (λ x. let w = ends-by j x in omega (arith, w .1 .more, eligible-exactly g r j .0 h .1 (w .0) (w .1 .job) (w .1 .past)))
+
+  -- the job that is ended is suspended in that tick: what is over is past zero slack
+  pub ended-suspended : (j : ℕ) → ends g r e j ≡ true → suspended g r j ≡ true
+  unfolding ends
+  ended-suspended j h =
+      let w = ends-by j h in
+      suspended-exactly g r j .1 (and-left (alive r j) _ h, (w .0, w .1 .job, (w .1 .past, w .1 .more)))
+
+  -- a job that is suspended has one more tick suspended, and no other has
+  pub suspended-more : (j : ℕ) → suspended g r j ≡ true → suspendedAfter g r e j ≡ suc (suspendedAt r j)
+  unfolding suspendedAfter
+  suspended-more j s = rw s (omega arith)
+
+  pub suspended-same : (j : ℕ) → suspended g r j ≡ false → suspendedAfter g r e j ≡ suspendedAt r j
+  unfolding suspendedAfter
+  suspended-same j s = rw s (omega arith)
+
+  -- a job that waits has one more tick waited, and no other has
+  pub waited-more : (j : ℕ) → waits g r e j ≡ true → waitedAfter g r e j ≡ suc (waitedAt r j)
+  unfolding waitedAfter
+  waited-more j w = rw w (omega arith)
+
+  pub waited-same : (j : ℕ) → waits g r e j ≡ false → waitedAfter g r e j ≡ waitedAt r j
+  unfolding waitedAfter
+  waited-same j w = rw w (omega arith)
+
+  -- a job waits exactly when it is eligible and the entry is another job
+  pub waiting : (j : ℕ) → waits g r e j ≡ true ↔ (eligible g r j ≡ true) × (e < jobCount (g .lists .jobs)) × (e ≢ j)
+  unfolding waits
+  waiting j = Iff·trans (and-reads (and-reads Iff·rfl (lt-reads _ _)) (Iff·trans (not-reads _) (eqb-false e j, ne-eqb e j))) (λ w. (w .0 .0, w .0 .1, w .1), λ w. ((w .0, w .1), w .2))
+
+  -- what the tick adds to the three numbers of job j
+  pub record Raised (j done suspended waited : ℕ) : Type 0 where
+    pub done-by : doneAfter g r e j ≡ doneAt r j + done
+    pub suspended-by : suspendedAfter g r e j ≡ suspendedAt r j + suspended
+    pub waited-by : waitedAfter g r e j ≡ waitedAt r j + waited
+
+  raised : (j : ℕ) (a b c : Bool) → eqb e j ≡ a → suspended g r j ≡ b → waits g r e j ≡ c → Raised j (cond a 1 0) (cond b 1 0) (cond c 1 0)
+  unfolding doneAfter suspendedAfter waitedAfter
+  raised j a b c p q w = record { done-by = rw p; suspended-by = rw q; waited-by = rw w }
+
+  module _ (may : candidateOrIdle g r e ≡ true) (j : ℕ) (l : j < 64) where
+    -- of a job alive in the tick exactly one is raised, by one: it runs, or is suspended, or waits
+    pub one-raised : j < jobCount (g .lists .jobs) → alive r j ≡ true → Raised j 1 0 0 ⊎ Raised j 0 1 0 ⊎ Raised j 0 0 1
+    unfolding eligible
+    one-raised k a = go (ℕ-discrete e j) (either (suspended g r j))
+      where
+        still : (eligible g r j ≡ false) ⊎ (e ≡ j) → waits g r e j ≡ false
+        still (inl h) = fails _ (λ w. clash (waiting j .0 w .0) h)
+        still (inr q) = fails _ (λ w. waiting j .0 w .2 q)
+
+        -- where a job is eligible, the entry is a job
+        runs : eligible g r j ≡ true → e < jobCount (g .lists .jobs)
+        runs h = ⊎-elim (λ c. c .0) (λ c. clash (some-candidate g r j k h) (c .1)) (runs-or-idle g r e may)
+
+        go : Dec (e ≡ j) → (suspended g r j ≡ true) ⊎ (suspended g r j ≡ false) → Raised j 1 0 0 ⊎ Raised j 0 1 0 ⊎ Raised j 0 0 1
+        go (yes q) (inl s) = clash s (not-true _ (and-right (alive r j) _ (runs-eligible g r e j may l q)))
+        go (yes q) (inr s) = inl (raised j true false false (eq-eqb e j q) s (still (inr q)))
+        go (no n) (inl s) = inr (inl (raised j false true false (ne-eqb e j n) s (still (inl (and-false-right (alive r j) (ap not s))))))
+        go (no n) (inr s) =
+            let h : eligible g r j ≡ true = and-true a (not-of s) in
+            inr (inr (raised j false false true (ne-eqb e j n) s (waiting j .1 (h, runs h, n))))
+
+    -- of any other none
+    pub none-raised : alive r j ≡ false → Raised j 0 0 0
+    none-raised a =
+        raised j false false false (ne-eqb e j (λ q. clash (eligible-alive g r j (runs-eligible g r e j may l q)) a))
+        (fails _ (λ s. clash (suspended-exactly g r j .0 s .0) a)) (fails _ (λ w. clash (eligible-alive g r j (waiting j .0 w .0)) a))

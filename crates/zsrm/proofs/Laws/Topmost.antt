@@ -1,5 +1,5 @@
 -- Demand 3, second part: a task that is strictly more critical than every other, with Z + Co ≤ D. Each of its jobs whose
--- arrival + Z + c lies within the horizon is finished by then, in every legal claim and either mode.
+-- arrival + Z + c lies within the horizon is finished by then, in every legal claim and either mode; and none of them is ever suspended.
 use Prim.Native.Nat.{_+_, _<_, suc, ℕ, _≤_}
 use mathlib.Core.Bool.{false, true}
 use mathlib.Core.List.{List}
@@ -15,19 +15,19 @@ use Rattle.zsrm.specs.declared.record.Record.{Record}
 use Rattle.zsrm.specs.declared.record.Standing.{Standing}
 use Rattle.zsrm.specs.declared.record.Standing.the-variants.{Ended, Finished, NotArrived, Unfinished}
 use Rattle.zsrm.specs.Legal.{candidateOrIdle}
-use Rattle.zsrm.specs.Record.{consistent, doneAt, fresh, opening, standingAt}
+use Rattle.zsrm.specs.Record.{consistent, doneAt, fresh, opening, standingAt, suspendedAt}
 use Rattle.tables.specs.Refusals.{checkJobs, checkTasks}
-use Rattle.zsrm.specs.Run.{replay, replayed, recordAt}
+use Rattle.zsrm.specs.Run.{replay, replayed, recordAt, recordBefore}
 use Rattle.zsrm.specs.Given.{Given}
 use Rattle.tables.specs.Tables.{arrival, criticality, deadline, deadlineInstant, idle, jobCount, jobCriticality, overload, period, taskOf, offset, zeroSlackInstant}
-use Rattle.zsrm.specs.Tick.{advanced, alive, doneAfter, ends, standingAfter, unfinished}
+use Rattle.zsrm.specs.Tick.{advanced, alive, doneAfter, standingAfter, suspended, unfinished}
 use Rattle.zsrm.specs.Topmost.{Topmost, assured}
 use Rattle.tables.proofs.Laws.Accepted.{apart, few-jobs, job, task}
 use Rattle.zsrm.proofs.Laws.Consistent.{Sound, advanced-consistent, fresh-consistent, sound-at}
-use Rattle.zsrm.proofs.Laws.Places.{done-advanced, done-fresh, standing-advanced, standing-fresh, tick-advanced, tick-fresh, alive-unfinished, opens}
+use Rattle.zsrm.proofs.Laws.Places.{done-advanced, done-fresh, standing-advanced, standing-fresh, suspended-advanced, suspended-fresh, tick-advanced, tick-fresh, alive-unfinished, opens}
 use Rattle.zsrm.proofs.Laws.Replay.{kept-at, legal-may, tick-replay, AllLegal}
+use Rattle.zsrm.proofs.Laws.Tick.{dispatch-serves, done-idle, done-ran, ended-suspended, goes-on, past-exactly, suspended-exactly, suspended-same}
 use Rattle.zsrm.proofs.Readings.{Within}
-use Rattle.zsrm.proofs.Laws.Tick.{dispatch-serves, done-idle, done-ran, ends-by, goes-on, past-exactly}
 
 -- on its way to that instant, by its standing at the tick t
 module _ (g : Given) (t j done : ℕ) where
@@ -83,6 +83,11 @@ module _ (g : Given) (k : ℕ) (okTasks : checkTasks (g .lists .tasks) ≡ Done)
   own-apart : (i j : ℕ) → Own i → Own j → i < j → arrival (g .lists .jobs) i + period (g .lists .tasks) k ≤ arrival (g .lists .jobs) j
   own-apart i j oi oj l = rw (oj .its) at (apart (g .lists .tasks) (g .lists .jobs) okJobs i j l (oj .job) (oi .its ∙ sym (oj .its)))
 
+  -- an own job is never suspended, and so never ended
+  never-suspended : (r : Record) (j : ℕ) → Own j → suspended g r j ≡ false
+  never-suspended r j o =
+      fails _ (λ s. let w = suspended-exactly g r j .0 s .1 in none-more (w .0) j (w .1) o (w .2 .1))
+
   -- the invariant: consistent, and every own job on time
   pub record Good (r : Record) : Type 0 where
     pub sound : consistent g r ≡ true
@@ -113,11 +118,6 @@ module _ (g : Given) (k : ℕ) (okTasks : checkTasks (g .lists .tasks) ≡ Done)
 
     -- from on time to on time
     module _ (e : ℕ) (may : candidateOrIdle g r e ≡ true) (j : ℕ) (o : Own j) where
-      -- an own job is never ended
-      never-ends : ends g r e j ≡ false
-      never-ends =
-          fails _ (λ x. let w = ends-by g r e j x in none-more (w .0) j (w .1 .job) o (w .1 .more))
-
       -- where the tick has come to zero slack plus what is done, it is the job's own
       runs-now : alive r j ≡ true → r .tick ≡ zeroSlackInstant (g .lists) j + doneAt r j → e ≡ j
       runs-now a z =
@@ -129,7 +129,7 @@ module _ (g : Given) (k : ℕ) (okTasks : checkTasks (g .lists .tasks) ≡ Done)
       unfolding standingAfter assured alive
       stays NotArrived q w t = opening-on-time g (suc (r .tick)) j (doneAfter g r e j) (w .away (o .job))
       stays Unfinished q w t =
-          goes-on g r e (OnTime g (suc (r .tick)) j (doneAfter g r e j)) j (λ p f. omega (arith, done-ran g r e j p)) (λ x y. clash y never-ends)
+          goes-on g r e (OnTime g (suc (r .tick)) j (doneAfter g r e j)) j (λ p f. omega (arith, done-ran g r e j p)) (λ x y. clash (ended-suspended g r e j y) (never-suspended r j o))
           (λ x y. go (ℕ-discrete e j))
         where
           go : Dec (e ≡ j) → suc (r .tick) ≤ zeroSlackInstant (g .lists) j + doneAfter g r e j
@@ -178,3 +178,11 @@ module _ (g : Given) (k : ℕ) (okTasks : checkTasks (g .lists .tasks) ≡ Done)
       (kept-at g 16384 Good (λ r p e u v w. advanced-good r e u (legal-may g r p e v) w) (fresh (g .lists .jobs)) idle es
       (rw tick-fresh (omega arith)) c fresh-good (length es)) in
       finished-by (replay g (fresh (g .lists .jobs)) es) end j o (omega (arith, tick-replay g (fresh (g .lists .jobs)) es))
+
+  -- none of them has a tick suspended, before any tick and at the end
+  pub topmost-unsuspended : (es : List ℕ) → length es ≤ 16384 → AllLegal g (fresh (g .lists .jobs)) idle es → (t j : ℕ) → Own j → suspendedAt (recordBefore g es t) j ≡ 0
+  unfolding recordBefore
+  topmost-unsuspended es b c t =
+      kept-at g 16384 (λ r. (j : ℕ) → Own j → suspendedAt r j ≡ 0)
+      (λ r p e u v w j o. suspended-advanced g r e j (small j o) ∙ suspended-same g r e j (never-suspended r j o) ∙ w j o)
+      (fresh (g .lists .jobs)) idle es (rw tick-fresh (omega arith)) c (λ j o. suspended-fresh (g .lists .jobs) j (small j o)) t

@@ -9,19 +9,25 @@ use native.Mathlib.Omega.{arith}
 use lib.Dec.{eqb, leb, ltb}
 use borrow.Author.Tests.{le-ltb, lt-ltb, ltb-false, ltb-true}
 use Rattle.bits.specs.Below.{bit, greatest, word, some}
-use Rattle.bits.specs.Word.{without}
+use Rattle.bits.specs.Word.{without, withBit}
 use Rattle.bits.proofs.Below.{least-same, some-same}
-use Rattle.bits.proofs.Bools.{and-false-right, clash, either, fails}
-use Rattle.bits.proofs.Word.{bit-word, highest-word, upTo, without-word, word-none, word-same}
+use Rattle.bits.proofs.Bools.{and-false-right, by-cond, clash, either, eqb-swap, fails}
+use Rattle.bits.proofs.Word.{bit-above, bit-word, highest-word, upTo, without-word, word-none, word-same}
 use Rattle.zsrm.specs.declared.record.Record.{Record}
+use Rattle.zsrm.specs.declared.next.Ticked.{Ticked}
 use Rattle.zsrm.specs.declared.tick.View.{View}
 use Rattle.zsrm.specs.Given.{isSE, Given}
 use Rattle.tables.specs.Tables.{idle, jobCount, jobCriticality, jobNominal, jobPriority, zeroSlackInstant, Lists}
 use Rattle.zsrm.specs.Record.{doneAt}
-use Rattle.zsrm.specs.Tick.{alive, candidate, choice, doneAfter, eligible, endedWord, ends, jobWord, moreCritical, over, pastZeroSlack, readyAt, readyWord, someJob, suspended}
-use Rattle.zsrm.specs.Code.View.{lessCriticalWord, chosen, hasPriority, isPast, lessCriticalIn, lowestOf, overrunWord, overruns, pastWord, priorityWord, view, greatestKey, greatestCriticality}
+use Rattle.zsrm.specs.Tick.{alive, candidate, choice, doneAfter, eligible, endedWord, ends, jobWord, moreCritical, over, pastZeroSlack, readyAt, readyWord, someJob, suspended, waits}
+use Rattle.zsrm.specs.Code.View.{lessCriticalWord, chosen, hasPriority, isPast, lessCriticalIn, lowestOf, overrunWord, overruns, pastWord, priorityWord, tickedBy, view, waitingWord, greatestKey, greatestCriticality}
 use Rattle.zsrm.proofs.Laws.Ready.{candidate-top}
-use Rattle.zsrm.proofs.Laws.Tick.{ends-by, se-reads}
+use Rattle.zsrm.proofs.Laws.Tick.{ends-by, se-reads, waiting}
+
+-- what the tick does with the entry e, the jobs as words
+abbrev pub ticked : Given → Record → ℕ → Ticked
+ticked g r e =
+    record { entry = e; suspended = jobWord (g .lists .jobs) (suspended g r); waiting = jobWord (g .lists .jobs) (waits g r e); ended = endedWord g r e }
 
 -- a loop that has come to the last job has collected them all
 pub collected : (jobs : List ℕ) (f : ℕ → Bool) (n j w : ℕ) → n ≡ jobCount jobs → j ≤ n → n ≤ j → w ≡ word 64 (upTo f j) → w ≡ jobWord jobs f
@@ -29,10 +35,10 @@ unfolding jobWord
 collected jobs f n j w q a b p = p ∙ ap (λ (x : ℕ). word 64 (upTo f x)) (let e : j ≡ n = omega arith in e ∙ q)
 
 -- the view, word by word
-pub view-made : (l : Lists) (r : Record) (a p m b e y : ℕ) → a ≡ jobWord (l .jobs) (alive r) → p ≡ pastWord l a (r .tick) → m ≡ greatestCriticality l p → b ≡ lessCriticalWord l a m
-    → e ≡ without a b → y ≡ priorityWord l e → _≡_ {A = View} (record { alive = a; past = p; eligible = e; ready = y }) (view l r)
+pub view-made : (l : Lists) (r : Record) (a p m s e y : ℕ) → a ≡ jobWord (l .jobs) (alive r) → p ≡ pastWord l a (r .tick) → m ≡ greatestCriticality l p → s ≡ lessCriticalWord l a m
+    → e ≡ without a s → y ≡ priorityWord l e → _≡_ {A = View} (record { alive = a; past = p; suspended = s; eligible = e; ready = y }) (view l r)
 unfolding view
-view-made l r a p m b e y qa qp qm qb qe qy = rw (qy, qe, qb, qm, qp, qa)
+view-made l r a p m s e y qa qp qm qs qe qy = rw (qy, qe, qs, qm, qp, qa)
 
 -- a set of jobs and its word
 pub jobWord-same : (jobs : List ℕ) (f h : ℕ → Bool) → ((j : ℕ) → j < jobCount jobs → f j ≡ h j) → jobWord jobs f ≡ jobWord jobs h
@@ -120,14 +126,16 @@ module _ (g : Given) (r : Record) (few : jobCount (g .lists .jobs) ≤ 64) where
   pub record Seen (v : View) : Type 0 where
     pub alive : v .alive ≡ jobWord (g .lists .jobs) (alive r)
     pub past : v .past ≡ jobWord (g .lists .jobs) (pastZeroSlack g r)
+    pub suspended : v .suspended ≡ jobWord (g .lists .jobs) (suspended g r)
     pub eligible : v .eligible ≡ jobWord (g .lists .jobs) (eligible g r)
     pub ready : v .ready ≡ readyWord g r
 
   pub seen : Seen (view (g .lists) r)
   unfolding view
   seen =
-      let e : view (g .lists) r .eligible ≡ jobWord (g .lists .jobs) (eligible g r) = rw (past-view, suspended-view) eligible-view in
-      record { alive = refl; past = past-view; eligible = e; ready = rw e ready-view }
+      let s : view (g .lists) r .suspended ≡ jobWord (g .lists .jobs) (suspended g r) = rw past-view suspended-view in
+      let e : view (g .lists) r .eligible ≡ jobWord (g .lists .jobs) (eligible g r) = rw s eligible-view in
+      record { alive = refl; past = past-view; suspended = s; eligible = e; ready = rw e ready-view }
 
   -- our choice is the lowest-numbered job of the top priority
   pub chosen-view : ((j : ℕ) → j < jobCount (g .lists .jobs) → jobPriority (g .lists) j < 64) → chosen (g .lists) (view (g .lists) r) ≡ choice g r
@@ -151,6 +159,27 @@ module _ (g : Given) (r : Record) (few : jobCount (g .lists .jobs) ≤ 64) where
         (ap (λ (w : ℕ). bit w j) (seen .past) ∙ jobWord-bit (g .lists .jobs) (pastZeroSlack g r) j few l))) in
         rw (seen .alive, overs) (below-by (over g r e))
 
+    -- those that wait
+    pub waiting-view : waitingWord (g .lists .jobs) (jobWord (g .lists .jobs) (eligible g r)) e ≡ jobWord (g .lists .jobs) (waits g r e)
+    unfolding waitingWord jobWord withBit waits
+    waiting-view = by-cond (λ x. x ≡ word 64 (upTo (waits g r e) n)) (ltb e n) _ _ others none
+      where
+        n : ℕ
+        n = jobCount (g .lists .jobs)
+
+        others : ltb e n ≡ true → without (word 64 (upTo (eligible g r) n)) (word 64 (λ q. bit 0 q || eqb q e)) ≡ word 64 (upTo (waits g r e) n)
+        others h =
+            without-word (upTo (eligible g r) n) (λ q. bit 0 q || eqb q e)
+            ∙ word-same _ (upTo (waits g r e) n) 64 (λ j _. rw (bit-above 0 0 j (omega arith) (omega arith), eqb-swap j e, h) (go (ltb j n) (eligible g r j) (eqb e j)))
+          where
+            go : (l a b : Bool) → ((l && a) && not b) ≡ (l && ((a && true) && not b))
+            go false a b = refl
+            go true false b = refl
+            go true true b = refl
+
+        none : ltb e n ≡ false → 0 ≡ word 64 (upTo (waits g r e) n)
+        none h = sym (word-none _ 64 (λ j _. and-false-right (ltb j n) (fails _ (λ w. clash (lt-ltb e n (waiting g r e j .0 w .1)) h))))
+
     pub none-ended : isSE (g .mode) ≡ false → endedWord g r e ≡ 0
     unfolding endedWord jobWord
     none-ended s = word-none _ 64 (λ j _. and-false-right (ltb j (jobCount (g .lists .jobs))) (fails (ends g r e j) (λ h. clash (se-reads (g .mode) .1 (ends-by g r e j h .1 .se)) s)))
@@ -163,3 +192,8 @@ module _ (g : Given) (r : Record) (v : View) (e : ℕ) (few : jobCount (g .lists
 
   pub ended-s : isSE (g .mode) ≡ false → 0 ≡ endedWord g r e
   ended-s s = sym (none-ended g r few e s)
+
+  -- and what it makes of that and of what it sees is what the tick does
+  pub ticked-made : (ended : ℕ) (w : Ticked) → ended ≡ endedWord g r e → w ≡ tickedBy (g .lists .jobs) v e ended → w ≡ ticked g r e
+  unfolding tickedBy
+  ticked-made ended w p h = h ∙ rw (p, q, seen g r few .suspended, seen g r few .eligible, waiting-view g r few e)

@@ -9,6 +9,7 @@ use Rattle.zsrm.specs.declared.record.Standing.{Standing}
 use Rattle.zsrm.specs.declared.record.Standing.the-variants.{NotArrived, Unfinished, Finished, Ended}
 use Rattle.zsrm.specs.declared.record.Place.{Place}
 use Rattle.zsrm.specs.declared.record.Record.{Record}
+use Rattle.zsrm.specs.declared.next.Ticked.{Ticked}
 use Rattle.tables.specs.Tables.{jobCount, arrival, execution}
 use Rattle.zsrm.specs.Record.{placeAt}
 
@@ -27,14 +28,19 @@ nextStanding t ran ended a c done Unfinished = workedOn t (ran && eqb done c) en
 nextStanding t ran ended a c done (Finished f) = Finished f
 nextStanding t ran ended a c done (Ended e) = Ended e
 
-abbrev pub nextPlace : ℕ → Bool → Bool → ℕ → ℕ → Place → Place
-nextPlace t ran ended a c p =
-    record { done = p .done + cond ran 1 0; standing = nextStanding t ran ended a c (p .done + cond ran 1 0) (p .standing) }
+-- after tick t, the place p of job j, which arrives at a and has c to do, the tick having done w
+abbrev pub nextPlace : ℕ → Ticked → ℕ → ℕ → ℕ → Place → Place
+nextPlace t w j a c p =
+    record {
+      done = p .done + cond (eqb (w .entry) j) 1 0;
+      suspended = p .suspended + cond (bit (w .suspended) j) 1 0;
+      waited = p .waited + cond (bit (w .waiting) j) 1 0;
+      standing = nextStanding t (eqb (w .entry) j) (bit (w .ended) j) a c (p .done + cond (eqb (w .entry) j) 1 0) (p .standing);
+    }
 
--- the place of job j after a tick in which the entry e ran and the jobs of a word were ended; places beyond the jobs stay
-unfoldable pub nextAt : List ℕ → Record → ℕ → ℕ → ℕ → Place
-nextAt jobs r e ended j =
-    cond (ltb j (jobCount jobs)) (nextPlace (r .tick) (eqb e j) (bit ended j) (arrival jobs j) (execution jobs j) (placeAt r j)) (placeAt r j)
+-- the place of job j after the record's tick; places beyond the jobs stay
+unfoldable pub nextAt : List ℕ → Record → Ticked → ℕ → Place
+nextAt jobs r w j = cond (ltb j (jobCount jobs)) (nextPlace (r .tick) w j (arrival jobs j) (execution jobs j) (placeAt r j)) (placeAt r j)
 
-unfoldable pub nextRecord : List ℕ → Record → ℕ → ℕ → Record
-nextRecord jobs r e ended = record { tick = r .tick + 1; places = listFrom 0 64 (nextAt jobs r e ended) }
+unfoldable pub nextRecord : List ℕ → Record → Ticked → Record
+nextRecord jobs r w = record { tick = r .tick + 1; places = listFrom 0 64 (nextAt jobs r w) }

@@ -1,11 +1,13 @@
 -- How the code sees a tick: sets of jobs as words, bit j for job j. No contract that callers see cites it; the laws in
 -- proofs/Laws/View join it to "One tick".
 use Prim.Native.Nat.{ℕ, zero, suc, _+_}
+use mathlib.Core.List.{List}
 use mathlib.Core.Bool.{Bool, _&&_, cond}
 use lib.Dec.{leb, ltb, eqb}
 use Rattle.bits.specs.Below.{least, greatest, word, bit}
-use Rattle.bits.specs.Word.{without}
+use Rattle.bits.specs.Word.{without, withBit}
 use Rattle.zsrm.specs.declared.record.Record.{Record}
+use Rattle.zsrm.specs.declared.next.Ticked.{Ticked}
 use Rattle.zsrm.specs.declared.tick.View.{View}
 use Rattle.tables.specs.Tables.{idle, jobCount, jobCriticality, jobPriority, jobNominal, zeroSlackInstant, Lists}
 use Rattle.zsrm.specs.Record.{doneAt}
@@ -56,9 +58,18 @@ module _ (l : Lists) where
   view r =
       let living = jobWord (l .jobs) (alive r) in
       let past = pastWord living (r .tick) in
-      let eligible = without living (lessCriticalWord living (greatestCriticality past)) in
-      record { alive = living; past = past; eligible = eligible; ready = priorityWord eligible }
+      let suspended = lessCriticalWord living (greatestCriticality past) in
+      let eligible = without living suspended in
+      record { alive = living; past = past; suspended = suspended; eligible = eligible; ready = priorityWord eligible }
 
   -- the lowest-numbered eligible job of the top priority that is ready
   unfoldable pub chosen : View → ℕ
   chosen v = lowestOf (v .eligible) (greatest 64 (bit (v .ready)) 64)
+
+-- the jobs of a set that wait while e runs: all but e, where it is a job
+unfoldable pub waitingWord : List ℕ → ℕ → ℕ → ℕ
+waitingWord jobs among e = cond (ltb e (jobCount jobs)) (without among (withBit 0 e)) 0
+
+-- what the tick does that is seen so, in which e runs and the jobs of a word are ended
+unfoldable pub tickedBy : List ℕ → View → ℕ → ℕ → Ticked
+tickedBy jobs v e ended = record { entry = e; suspended = v .suspended; waiting = waitingWord jobs (v .eligible) e; ended = ended }

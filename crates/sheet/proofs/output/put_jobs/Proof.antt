@@ -1,11 +1,11 @@
--- The lines of the first j jobs are written; each has at most 45 bytes.
+-- The lines of the first j jobs are written; each has at most 67 bytes.
 use Prim.Native.Nat.{ℕ, _-_, _/_, _<_, _≤_}
 use mathlib.Core.Path.{refl, _≡_}
 use native.Mathlib.Omega.{arith}
 use lib.ListN.{getD, length}
 use borrow.Author.Needs.{needs}
 use Rattle.tables.specs.Tables.{jobCount, lists}
-use Rattle.zsrm.specs.Record.{placeAt, standingAt}
+use Rattle.zsrm.specs.Record.{placeAt}
 use Rattle.zsrm.specs.Verdict.{verdict}
 use Rattle.zsrm.specs.declared.answers.Judged.{Judged}
 use Rattle.zsrm.specs.declared.answers.Verdict.the-variants.{Refused}
@@ -57,7 +57,7 @@ unfolding jobCount
 loop-less c = omega arith
 
 loop-again : tie.Need-loop-again Inv-loop μ-loop
-unfolding jobCount standingAt placeAt
+unfolding jobCount placeAt
 loop-again c =
     let x = c .before .before in
     let at = x .before .before .before .before .before in

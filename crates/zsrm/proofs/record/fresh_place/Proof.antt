@@ -15,7 +15,7 @@ returns : tie.Need-returns
 unfolding freshPlace opening arriving arrived
 returns c =
     let start = c .before .before .before .before in
-    ap (λ (s : Standing). let p : Place = record { done = 0; standing = s } in p)
+    ap (λ (s : Standing). let p : Place = record { done = 0; suspended = 0; waited = 0; standing = s } in p)
     (c .opening .ensures
     ∙ ap₂ (λ (n : ℕ) (x : Job). openingOf (ltb (start .args .j) n) (x .arrival) (x .execution) 0) (c .before .job-count .ensures) (c .before .before .job-at .ensures))
 

@@ -10,7 +10,7 @@ use Rattle.zsrm.proofs.tick.overruns.Tie as tie
 returns : tie.Need-returns
 unfolding overruns
 returns c =
-    ap₂ (λ (a b : Bool). a && b) (c .before .has-bit .ensures) (ap₂ ltb (c .nominal-of .ensures) (c .before .before .done-after .ensures))
+    ap₂ (λ (a b : Bool). a && b) (c .before .has-bit .ensures) (ap₂ ltb (c .nominal-of .ensures) (c .before .before .one-more-if .ensures))
 
 pub overruns-spec : {M : Type 1} → statement M
 overruns-spec = tie.close (tie.spec (λ c κs. search needs) (λ c κs. search needs) (λ c κs. search needs) (λ c. search needs) returns)
