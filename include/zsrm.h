@@ -45,8 +45,8 @@
 
    The stack
    ---------
-   Over the benchmark's inputs a call of zsrm_run was measured to need 7,000 bytes of stack and one
-   of zsrm_claim 8,312; nothing recurses. host/run bench measures both again.
+   Over the benchmark's inputs a call of zsrm_run was measured to need 8,296 bytes of stack and one
+   of zsrm_claim 9,592; nothing recurses. host/run bench measures both again.
 
    An example
    ----------
@@ -131,8 +131,8 @@ extern "C" {
 #endif
 
 /* Runs the jobs from tick 0 to the horizon and writes who runs in each tick. Among candidates of
-   equal priority the lowest job number runs. Gives 0, or a refusal, which is the refusal number
-   plus 256 times the place: then no byte is written. */
+   equal priority the job that ran goes on, else the lowest job number runs. Gives 0, or a
+   refusal, which is the refusal number plus 256 times the place: then no byte is written. */
 uint32_t zsrm_run(uint32_t mode, const uint8_t *tasks, size_t tasks_len, const uint8_t *jobs,
                   size_t jobs_len, uint32_t horizon, uint8_t *schedule, size_t schedule_len);
 

@@ -10,7 +10,7 @@ use Rattle.zsrm.specs.Record.{suspendedAt, waitedAt, arrived, arriving, doneAt,
 use Rattle.tables.specs.Refusals.{ascending, before, check2, check3, check4, check5, check6, check7, check8, check9, checkJobs, checkLists, checkTasks, outside, preceding, refuse, unless}
 use Rattle.zsrm.specs.Run.{entriesBy, replay, runEntries, runRecord, finalBy}
 use Rattle.tables.specs.Tables.{arrival, criticality, deadline, deadlineInstant, execution, jobCount, jobCriticality, jobNominal, jobPriority, nominal, overload, period, priority, taskCount, taskOf, offset, zeroSlackInstant}
-use Rattle.zsrm.specs.Tick.{advanced, alive, candidate, choice, doneAfter, eligible, ends, finishes, goesOn, higherPriority, moreCritical, over, pastZeroSlack, placeAfter, someJob, standingAfter, suspended, suspendedAfter, waitedAfter, waits}
+use Rattle.zsrm.specs.Tick.{advanced, alive, candidate, choice, doneAfter, eligible, ends, finishes, goesOn, higherPriority, moreCritical, over, pastZeroSlack, placeAfter, someJob, standingAfter, suspended, suspendedAfter, waitedAfter, waits, keeps, lowest}
 use Rattle.zsrm.specs.Verdict.{verdict}
 use mathlib.Core.Bool.{false, true}
 use Rattle.zsrm.specs.declared.answers.Verdict.the-variants.{Late}
@@ -71,7 +71,7 @@ table =
     ∷ []
 
 pub examples : map (λ r. listing (text r)) table ≡ map shown table
-unfolding some every least greatest count taskCount period deadline nominal overload criticality priority offset jobCount taskOf arrival execution jobCriticality jobPriority jobNominal zeroSlackInstant deadlineInstant refuse before ascending outside check2 check3 check4 checkTasks check5 preceding check6 check7 check8 checkJobs checkLists check9 placeAt doneAt suspendedAt waitedAt standingAt arriving arrived opening freshPlace fresh alive someJob moreCritical higherPriority pastZeroSlack suspended eligible candidate choice doneAfter over ends finishes suspendedAfter waits waitedAfter goesOn standingAfter placeAfter advanced replay entriesBy finalBy runEntries runRecord verdict unless listFrom leading spelled asNumber numberAt digits size decimal fieldAt numbersFrom firstLine parsedOf behindFirst line refusedLine runLine entry longestFrom longest stretch stretchLines stretches word instant lateness verdictLine jobLine jobLines printed runListing givenListing listing
+unfolding some every least greatest count taskCount period deadline nominal overload criticality priority offset jobCount taskOf arrival execution jobCriticality jobPriority jobNominal zeroSlackInstant deadlineInstant refuse before ascending outside check2 check3 check4 checkTasks check5 preceding check6 check7 check8 checkJobs checkLists check9 placeAt doneAt suspendedAt waitedAt standingAt arriving arrived opening freshPlace fresh alive someJob moreCritical higherPriority pastZeroSlack suspended eligible candidate lowest keeps choice doneAfter over ends finishes suspendedAfter waits waitedAfter goesOn standingAfter placeAfter advanced replay entriesBy finalBy runEntries runRecord verdict unless listFrom leading spelled asNumber numberAt digits size decimal fieldAt numbersFrom firstLine parsedOf behindFirst line refusedLine runLine entry longestFrom longest stretch stretchLines stretches word instant lateness verdictLine jobLine jobLines printed runListing givenListing listing
 examples = refl
 
 -- a late job's line: `job 2 late 18 =2 6 0` where it has finished, `job 2 late - >=0 6 0` where it is alive

@@ -14,6 +14,7 @@ use Rattle.bits.proofs.Below.{last-or-below}
 use Rattle.bits.proofs.Bools.{by-cond}
 use Rattle.tables.specs.declared.outcome.Outcome.the-variants.{Done}
 use Rattle.tables.specs.Refusals.{before, check9, checkLists}
+use Rattle.zsrm.specs.declared.tie.Tie.the-variants.{Lowest}
 use Rattle.zsrm.specs.Run.{runEntries, runRecord}
 use Rattle.tables.specs.Tables.{idle, jobCount}
 use Rattle.zsrm.proofs.Laws.Run.{length-run}
@@ -188,17 +189,17 @@ pub longest-reads : (es : List ℕ) (ss : List Stretch) → longest es ≡ ss �
 longest-reads es ss = (λ e. subst (λ (x : List Stretch). Longest es 0 x (length es)) e (holds es), one es 0 (length es) (longest es) ss (holds es))
 
 -- of our run: from 0 to the horizon
-pub run-reads : (g : Given) (horizon : ℕ) (ss : List Stretch) → longest (runEntries g horizon) ≡ ss ↔ Longest (runEntries g horizon) 0 ss horizon
+pub run-reads : (g : Given) (horizon : ℕ) (ss : List Stretch) → longest (runEntries g Lowest horizon) ≡ ss ↔ Longest (runEntries g Lowest horizon) 0 ss horizon
 run-reads g horizon ss =
-    subst (λ (b : ℕ). longest (runEntries g horizon) ≡ ss ↔ Longest (runEntries g horizon) 0 ss b) (length-run g horizon) (longest-reads (runEntries g horizon) ss)
+    subst (λ (b : ℕ). longest (runEntries g Lowest horizon) ≡ ss ↔ Longest (runEntries g Lowest horizon) 0 ss b) (length-run g Lowest horizon) (longest-reads (runEntries g Lowest horizon) ss)
 
 -- Of a text that is not refused the listing is line 1, then the lines of these stretches in their order, then the jobs.
 pub listing-reads : (text : List ℕ) (g : Given) (horizon : ℕ) → parsedOf text ≡ parsed (g .mode) horizon (g .lists .tasks) (g .lists .jobs)
     → before (checkLists (g .lists)) (check9 horizon) ≡ Done
     → (ss : List Stretch)
-    × Longest (runEntries g horizon) 0 ss horizon
-    × (listing text ≡ runLine (g .mode) horizon ++ (stretchLines ss ++ jobLines (g .lists) (runRecord g horizon) (jobCount (g .lists .jobs))))
+    × Longest (runEntries g Lowest horizon) 0 ss horizon
+    × (listing text ≡ runLine (g .mode) horizon ++ (stretchLines ss ++ jobLines (g .lists) (runRecord g Lowest horizon) (jobCount (g .lists .jobs))))
 unfolding listing givenListing runListing printed stretches
 listing-reads text g horizon p accepts =
     let runs = unless-done refusedLine (runListing g horizon) (before (checkLists (g .lists)) (check9 horizon)) accepts in
-    (longest (runEntries g horizon), run-reads g horizon _ .0 refl, rw (p, runs))
+    (longest (runEntries g Lowest horizon), run-reads g horizon _ .0 refl, rw (p, runs))

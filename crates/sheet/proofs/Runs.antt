@@ -16,6 +16,7 @@ use Rattle.zsrm.specs.declared.answers.Verdicts.{Verdicts}
 use Rattle.zsrm.specs.declared.record.Record.{Record}
 use Rattle.zsrm.specs.declared.record.Place.{Place}
 use Rattle.zsrm.specs.declared.mode.Mode.{Mode}
+use Rattle.zsrm.specs.declared.tie.Tie.the-variants.{Lowest}
 use Rattle.zsrm.specs.Answers.{checkSchedule, runAnswer, runSchedule, verdictsAnswer}
 use Rattle.zsrm.specs.Record.{consistent, placeAt}
 use Rattle.tables.specs.Refusals.{before, check9, checkLists, unless}
@@ -66,30 +67,30 @@ module _ (mode : Mode) (horizon : ℕ) (es : List ℕ) (few : length es ≤ 1638
       omega (arith, v .next-is, wrote-length v, head-length mode horizon, w .next-is, wrote-length w, stretches-length es)
 
 -- what the library's run answers, and what is printed for it
-module _ (g : Given) (horizon : ℕ) (lent : List ℕ) {r : Ran} (is : r ≡ runAnswer g horizon lent) where
+module _ (g : Given) (horizon : ℕ) (lent : List ℕ) {r : Ran} (is : r ≡ runAnswer g Lowest horizon lent) where
   checked : r .outcome ≡ checkSchedule (g .lists) horizon (length lent)
-  checked = ap (λ (x : Ran). x .outcome) is ∙ run-outcome g horizon lent
+  checked = ap (λ (x : Ran). x .outcome) is ∙ run-outcome g Lowest horizon lent
 
   module _ (done : r .outcome ≡ Done) where
     accepts : checkSchedule (g .lists) horizon (length lent) ≡ Done
     accepts = sym checked ∙ done
 
-    recorded : r .«record» ≡ runRecord g horizon
-    recorded = ap (λ (x : Ran). x .«record») is ∙ run-given g horizon lent accepts .0
+    recorded : r .«record» ≡ runRecord g Lowest horizon
+    recorded = ap (λ (x : Ran). x .«record») is ∙ run-given g Lowest horizon lent accepts .0
 
     pub ran-judged : Sound (g .mode) (g .lists .tasks) (g .lists .jobs) (r .«record»)
     ran-judged =
         record {
           lists = accepted (g .lists) horizon (length lent) accepts .lists;
-          sound = ap (λ (x : Ran). consistent g (x .«record»)) is ∙ ran-consistent g horizon lent accepts;
+          sound = ap (λ (x : Ran). consistent g (x .«record»)) is ∙ ran-consistent g Lowest horizon lent accepts;
         }
 
-    module _ {es : List ℕ} (writes : es ≡ runSchedule g horizon lent) where
-      wrote-entries : es ≡ runEntries g horizon
-      wrote-entries = writes ∙ run-given g horizon lent accepts .1
+    module _ {es : List ℕ} (writes : es ≡ runSchedule g Lowest horizon lent) where
+      wrote-entries : es ≡ runEntries g Lowest horizon
+      wrote-entries = writes ∙ run-given g Lowest horizon lent accepts .1
 
       pub ran-short : length es ≤ 16384
-      ran-short = omega (arith, ap length wrote-entries, length-run g horizon, accepted (g .lists) horizon (length lent) accepts .bounded)
+      ran-short = omega (arith, ap length wrote-entries, length-run g Lowest horizon, accepted (g .lists) horizon (length lent) accepts .bounded)
 
       pub ran-listing : (length lent ≡ horizon) ⊎ (16384 < horizon)
           → printed g horizon es (r .«record») ≡ givenListing g horizon
@@ -112,7 +113,7 @@ run-length : (g : Given) (horizon : ℕ) → horizon ≤ 16384 → jobCount (g .
 unfolding runListing printed
 run-length g horizon h j =
     simp length-append
-    (omega (arith, head-length (g .mode) horizon, stretches-length (runEntries g horizon), length-run g horizon, jobs-length (g .lists) (runRecord g horizon) (jobCount (g .lists .jobs))))
+    (omega (arith, head-length (g .mode) horizon, stretches-length (runEntries g Lowest horizon), length-run g Lowest horizon, jobs-length (g .lists) (runRecord g Lowest horizon) (jobCount (g .lists .jobs))))
 
 pub given-length : (g : Given) (horizon : ℕ) → length (givenListing g horizon) ≤ 544977
 unfolding givenListing unless check9

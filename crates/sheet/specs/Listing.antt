@@ -5,6 +5,7 @@ use mathlib.Core.List.{List, [], _∷_, _++_}
 use lib.Dec.{eqb}
 use Rattle.decimal.specs.Decimal.{decimal}
 use Rattle.zsrm.specs.declared.mode.Mode.{Mode}
+use Rattle.zsrm.specs.declared.tie.Tie.the-variants.{Lowest}
 use Rattle.zsrm.specs.declared.mode.Mode.the-variants.{S, SE}
 use Rattle.zsrm.specs.declared.record.Place.{Place}
 use Rattle.zsrm.specs.declared.record.Record.{Record}
@@ -128,9 +129,9 @@ module _ (g : Given) where
   unfoldable pub printed : ℕ → List ℕ → Record → List ℕ
   printed horizon es r = runLine (g .mode) horizon ++ (stretches es ++ jobLines (g .lists) r (jobCount (g .lists .jobs)))
 
-  -- what is printed of our run
+  -- what is printed of our run that takes the lowest job number among equals
   unfoldable pub runListing : ℕ → List ℕ
-  runListing horizon = printed horizon (runEntries g horizon) (runRecord g horizon)
+  runListing horizon = printed horizon (runEntries g Lowest horizon) (runRecord g Lowest horizon)
 
   -- the refusals of the lists and of the horizon, lowest first, or the run
   unfoldable pub givenListing : ℕ → List ℕ

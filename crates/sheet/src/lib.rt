@@ -15,6 +15,7 @@ use output::put_stretches;
 use zsrm::Mode;
 use zsrm::Outcome;
 use zsrm::Record;
+use zsrm::Tie;
 
 mod input;
 mod output;
@@ -51,7 +52,7 @@ fn put_given(
     requires { ⌜ 600000 ≤ length (now out) ⌝ }
     ensures { λ r. ⌜ Wrote (now (out .entry)) 0 (givenListing (given mode (now (tasks .entry)) (now (jobs .entry))) horizon) (now (out .exit)) r ⌝ }
 {
-    let ran = zsrm::run(mode, tasks, jobs, horizon, schedule);
+    let ran = zsrm::run(mode, Tie::Lowest, tasks, jobs, horizon, schedule);
     let outcome = ran.outcome;
     let rec = ran.record;
     match outcome {

@@ -5,6 +5,7 @@ use crate::draw::draw;
 use crate::list::ARRIVAL;
 use crate::list::Case;
 use crate::list::EXECUTION;
+use crate::list::IDLE;
 use crate::list::job;
 use crate::list::least;
 use crate::list::less;
@@ -106,6 +107,18 @@ fn some_tick(trial: u32, place: u32, tick: u32) -> u32 {
     if kind == 2 { 16385 } else { 16384 }
 }
 
+// An entry before: a job of so many in most cases, idle, the first that is none of them, or one that no list has.
+fn some_previous(trial: u32, place: u32, jobs: u32) -> u16
+    requires { ⌜ place < 60000 ⌝ }
+{
+    match draw(trial, place, 8) {
+        0 => IDLE,
+        1 => (jobs % 65536) as u16,
+        2 => 65534,
+        _ => (draw(trial, place + 1, jobs) % 65536) as u16,
+    }
+}
+
 // A place with so many ticks done that fits a job so many after its arrival: one finished or ended may have lost any number of those that
 // are left, an unfinished one has lost them all, and what is lost falls to either number.
 fn fitting_with(case: Case, place: u32, arrival: u32, c: u32, since: u32, done: u32) -> Place
@@ -181,11 +194,12 @@ fn some_altered(rec: Record, trial: u32, jobs: u32, wild: u32) -> Record {
     next
 }
 
-// A record with another tick, or another place among those of the jobs and one more; or, with many changes, every place of a job another
-// that fits, at another tick half of the time, and then up to three that need not fit.
+// A record with another tick, another entry before, or another place among those of the jobs and one more; or, with many changes, every
+// place of a job another that fits, another entry before, another tick half of the time, and then up to three places that need not fit.
 pub(crate) fn altered(rec: Record, case: Case, jobs: &[u32], many: bool) -> Record {
     let trial = case.trial;
-    let kind = draw(trial, 66, 5);
+    let kind = draw(trial, 66, 6);
+    let n = (jobs.len() / 3 % 64) as u32;
     let moves = if many {
         draw(trial, 70, 2) == 0
     } else {
@@ -193,6 +207,8 @@ pub(crate) fn altered(rec: Record, case: Case, jobs: &[u32], many: bool) -> Reco
     };
     let wild = if many {
         draw(trial, 72, 4)
+    } else if kind == 5 {
+        0
     } else {
         least(kind, 1)
     };
@@ -200,8 +216,11 @@ pub(crate) fn altered(rec: Record, case: Case, jobs: &[u32], many: bool) -> Reco
     if moves {
         next.tick = some_tick(trial, 68, rec.tick);
     }
+    if many | (kind == 5) {
+        next.previous = some_previous(trial, 76, n);
+    }
     if many {
         next = fitting_record(next, case, jobs);
     }
-    some_altered(next, trial, (jobs.len() / 3 % 64) as u32, wild)
+    some_altered(next, trial, n, wild)
 }

@@ -2,10 +2,12 @@
 // that is shown NUMBERED and its length, a claim that is not legal NUMBERED and its tick, a job that is late AT_LEAST or EXACTLY and by how
 // much, a witness outside the assumption OUTSIDE and the job that it names, a refusal REFUSED, its number and 256 times its place.
 ghost use Prim.Native.Nat.{_≤_};
+use crate::leap::STAYING;
 use zsrm::Claim;
 use zsrm::Mode;
 use zsrm::Outcome;
 use zsrm::Standing;
+use zsrm::Tie;
 use zsrm::Verdict;
 use zsrm::Witness;
 
@@ -50,6 +52,14 @@ pub(crate) fn told(answer: u64, entries: bool, words: bool, record: bool) -> u64
 
 pub(crate) fn mode_of(se: bool) -> Mode {
     if se { Mode::SE } else { Mode::S }
+}
+
+pub(crate) fn tie_of(way: u32) -> Tie {
+    if way == STAYING {
+        Tie::Stay
+    } else {
+        Tie::Lowest
+    }
 }
 
 fn refused(number: u32, place: u32) -> u64 {

@@ -20,6 +20,7 @@ use crate::judge::late;
 use crate::judge::refusal;
 use crate::judge::schedule_key;
 use crate::judge::ticks_of;
+use crate::leap::LAST;
 use crate::lines::change;
 use crate::list::ARRIVAL;
 use crate::list::CRITICALITY;
@@ -214,8 +215,12 @@ pub(crate) fn try_claims(
     let mut line = no_line();
     for kind in 0..8 {
         if claimed(kind, ticks, case.trial) {
-            let ours = kind != LAST_OF_EQUALS;
-            fly(case.se, tasks, jobs, ticks, ours, &mut line);
+            let way = if kind == LAST_OF_EQUALS {
+                LAST
+            } else {
+                case.way
+            };
+            fly(case.se, tasks, jobs, ticks, way, &mut line);
             change(&mut line, kind, case.trial, n, ticks);
             let call = CLAIM + 32 * ((kind % 8) as usize);
             try_claim(t, case, tasks, jobs, &line, own, call, between);

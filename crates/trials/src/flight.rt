@@ -1,9 +1,9 @@
 // Whole schedules by leaps: our run's entries with where they end, and a claimed schedule taken stretch by stretch.
 use crate::leap::Sim;
+use crate::leap::chosen;
 use crate::leap::fixed_instant;
 use crate::leap::leap;
 use crate::leap::may;
-use crate::leap::ready_now;
 use crate::list::IDLE;
 use crate::list::Line;
 use crate::list::entry_at;
@@ -23,20 +23,19 @@ pub(crate) fn fill(line: &mut Line, from: u32, to: u32, entry: u16) {
     }
 }
 
-// A run up to the horizon, ours or the one that takes the last of equals: its entries are written, and where it ends is the answer.
+// A run up to the horizon, by a way to choose among equals: its entries are written, and where it ends is the answer.
 pub(crate) fn fly(
     se: bool,
     tasks: &[u32],
     jobs: &[u32],
     horizon: u32,
-    ours: bool,
+    way: u32,
     line: &mut Line,
 ) -> Sim {
     let mut s = begin(jobs);
     for leaps in 0..horizon {
         if s.now < horizon {
-            let r = ready_now(s, tasks, jobs);
-            let x = if ours { r.first } else { r.last };
+            let x = chosen(s, tasks, jobs, way);
             let end = leap(s, se, tasks, jobs, x, horizon);
             fill(line, s.now, end.now, entry_of(x));
             s = end;

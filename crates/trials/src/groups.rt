@@ -2,6 +2,7 @@
 use crate::altered::altered;
 use crate::claims::try_claims;
 use crate::damage::damaged;
+use crate::draw::draw;
 use crate::inputs::Input;
 use crate::inputs::long;
 use crate::inputs::make_input;
@@ -137,6 +138,7 @@ fn trial_of(t: &mut Tally, kind: u32, trial: u32, se: bool) {
     let case = Case {
         trial,
         se,
+        way: draw(trial, 74, 2),
         horizon: inp.horizon,
         room: inp.room,
     };

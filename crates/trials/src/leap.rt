@@ -12,13 +12,22 @@ use crate::list::less;
 use crate::list::of;
 use crate::list::wide;
 
+// The ways to choose among equals: the first, the job that ran before where it still may, and one that is not ours, the last.
+pub(crate) const LOWEST: u32 = 0;
+
+pub(crate) const STAYING: u32 = 1;
+
+pub(crate) const LAST: u32 = 2;
+
 // What is left of each job, and its fate, at an instant: 0 while it is open, 4 f + 1 for a finish at f, 4 e + 2 for an end in tick e, 3
-// where there is no such job. A turn is an instant at which the job that ran finished or, in SE, reached C; cut has a bit for each job that
-// the tick before ended. Of its time a job has been held so many ticks below the bar, and has waited so many for others that ran.
+// where there is no such job. A turn is an instant at which the job that ran finished or, in SE, reached C; cut has a bit for each job
+// that the tick before ended, and ran is the job of that tick, 64 for none. Of its time a job has been held so many ticks below the bar,
+// and has waited so many for others that ran.
 pub(crate) struct Sim {
     pub now: u32,
     pub turn: bool,
     pub cut: u64,
+    pub ran: usize,
     pub left: [u32; 64],
     pub fate: [u32; 64],
     pub held: [u32; 64],
@@ -135,6 +144,35 @@ pub(crate) fn may(s: Sim, tasks: &[u32], jobs: &[u32], x: usize) -> bool {
     }
 }
 
+// What the job of the tick before has come to: 0 there was none, 1 it may run, 2 it is finished or 3 ended, 4 it has not come, 5 it stands
+// below the bar, 6 others of higher priority go before it.
+pub(crate) fn before(s: Sim, tasks: &[u32], jobs: &[u32]) -> usize {
+    if 64 <= s.ran {
+        return 0;
+    }
+    if may(s, tasks, jobs, s.ran) {
+        return 1;
+    }
+    if s.now < job(jobs, s.ran, ARRIVAL) {
+        return 4;
+    }
+    let fate = s.fate[s.ran];
+    if fate != 0 {
+        return if fate % 4 == 1 { 2 } else { 3 };
+    }
+    let own = stands(tasks, jobs, s.ran, fate, s.now, bar(s, tasks, jobs));
+    if own == 1 { 5 } else { 6 }
+}
+
+// Who runs, 64 for none.
+pub(crate) fn chosen(s: Sim, tasks: &[u32], jobs: &[u32], way: u32) -> usize {
+    let r = ready_now(s, tasks, jobs);
+    if (way == STAYING) & (s.ran < 64) & may(s, tasks, jobs, s.ran) {
+        return s.ran;
+    }
+    if way == LAST { r.last } else { r.first }
+}
+
 // The next arrival or zero-slack instant, or the limit where it comes first.
 fn soonest(tasks: &[u32], jobs: &[u32], now: u32, limit: u32) -> u64 {
     let n = jobs.len() / 3;
@@ -213,6 +251,7 @@ fn spend(s: Sim, se: bool, tasks: &[u32], jobs: &[u32], x: usize, until: u32) ->
     let mut next = s;
     next.now = until;
     next.turn = false;
+    next.ran = x;
     if x < 64 {
         let rest = wide(s.left[x]) + wide(s.now);
         if (until as u64) < rest {

@@ -10,11 +10,12 @@ pub(crate) struct List {
 // A schedule, with room for the longest horizon.
 pub(crate) type Line = [u16; 16384];
 
-// What a trial is about besides its lists: its number, which is the seed of all that is drawn for it, the mode, the horizon, and how many
-// entries are lent.
+// What a trial is about besides its lists: its number, which is the seed of all that is drawn for it, the mode, the way to choose among
+// equals, the horizon, and how many entries are lent.
 pub(crate) struct Case {
     pub trial: u32,
     pub se: bool,
+    pub way: u32,
     pub horizon: u32,
     pub room: usize,
 }

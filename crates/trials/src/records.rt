@@ -1,8 +1,10 @@
 // Records: whether the library's holds what the simulator has, what the simulator makes of one, and whether one is consistent.
 use crate::answers::of_standing;
+use crate::flight::entry_of;
 use crate::leap::Sim;
 use crate::list::ARRIVAL;
 use crate::list::EXECUTION;
+use crate::list::IDLE;
 use crate::list::job;
 use crate::list::less;
 use crate::list::wide;
@@ -20,7 +22,7 @@ fn place_holds(place: Place, jobs: &[u32], j: usize, left: u32, fate: u32, now: 
 
 // Whether a record is that of the simulator's instant, at all 64 places.
 pub(crate) fn holds(rec: Record, jobs: &[u32], s: Sim) -> bool {
-    let mut same = rec.tick == s.now;
+    let mut same = (rec.tick == s.now) & (rec.previous == entry_of(s.ran));
     for j in 0..64 {
         let place = rec.places[j];
         let lost = (place.suspended == s.held[j]) & (place.waited == s.waited[j]);
@@ -43,6 +45,11 @@ fn fate_of(place: Place, jobs: &[u32], j: usize) -> u32 {
     }
 }
 
+// The job of an entry, 64 for idle and for whatever is no job.
+fn job_of(entry: u16) -> usize {
+    if entry < 64 { entry as usize } else { 64 }
+}
+
 // The simulator at the instant of a consistent record, or of one that no job has touched.
 pub(crate) fn taken_up(rec: Record, jobs: &[u32]) -> Sim {
     let n = jobs.len() / 3;
@@ -63,6 +70,7 @@ pub(crate) fn taken_up(rec: Record, jobs: &[u32]) -> Sim {
         now: rec.tick,
         turn: false,
         cut: 0,
+        ran: job_of(rec.previous),
         left,
         fate,
         held,
@@ -80,6 +88,7 @@ pub(crate) fn begin(jobs: &[u32]) -> Sim {
     };
     let blank = Record {
         tick: 0,
+        previous: IDLE,
         places: [empty; 64],
     };
     taken_up(blank, jobs)
@@ -136,7 +145,9 @@ fn losses_fit(jobs: &[u32], j: usize, place: Place, now: u32) -> bool {
 
 // Whether a record is consistent with the jobs.
 pub(crate) fn consistent(rec: Record, se: bool, jobs: &[u32]) -> bool {
-    let mut every = rec.tick <= 16384;
+    let named = if rec.tick == 0 { 0 } else { jobs.len() / 3 };
+    let before = (rec.previous == IDLE) | ((rec.previous as usize) < named);
+    let mut every = before & (rec.tick <= 16384);
     for j in 0..64 {
         let place = rec.places[j];
         let lost = losses_fit(jobs, j, place, rec.tick);

@@ -8,6 +8,7 @@ use crate::answers::late_by;
 use crate::answers::mode_of;
 use crate::answers::of_outcome;
 use crate::answers::of_verdict;
+use crate::answers::tie_of;
 use crate::answers::told;
 use crate::flight::entry_of;
 use crate::flight::fly;
@@ -16,7 +17,11 @@ use crate::judge::late;
 use crate::judge::lists_key;
 use crate::judge::refusal;
 use crate::judge::ticks_of;
+use crate::leap::LOWEST;
+use crate::leap::STAYING;
 use crate::leap::Sim;
+use crate::leap::before;
+use crate::leap::chosen;
 use crate::leap::leap;
 use crate::leap::ready_now;
 use crate::list::ARRIVAL;
@@ -37,6 +42,7 @@ use crate::records::begin;
 use crate::records::consistent;
 use crate::records::holds;
 use crate::records::taken_up;
+use crate::tally::AFTER;
 use crate::tally::ALL_VERDICTS;
 use crate::tally::BUSY_TICKS;
 use crate::tally::ENDING;
@@ -47,6 +53,7 @@ use crate::tally::LONGEST;
 use crate::tally::NO_TICK;
 use crate::tally::RUN;
 use crate::tally::STEP;
+use crate::tally::TIES_DIFFER;
 use crate::tally::Tally;
 use crate::tally::VERDICT;
 use crate::tally::add;
@@ -55,6 +62,7 @@ use zsrm::Mode;
 use zsrm::Ran;
 use zsrm::Record;
 use zsrm::Stepped;
+use zsrm::Tie;
 use zsrm::Verdict;
 
 // Whether the entries of a list are those of another from a place on.
@@ -77,6 +85,7 @@ fn held_jobs(jobs: &[u32], key: u32) -> &[u32] {
 
 fn lent_run(
     mode: Mode,
+    tie: Tie,
     tasks: &[u32],
     jobs: &[u32],
     horizon: u32,
@@ -84,9 +93,9 @@ fn lent_run(
     room: usize,
 ) -> Ran {
     if room <= line.len() {
-        zsrm::run(mode, tasks, jobs, horizon, &mut line[0..room])
+        zsrm::run(mode, tie, tasks, jobs, horizon, &mut line[0..room])
     } else {
-        zsrm::run(mode, tasks, jobs, horizon, line)
+        zsrm::run(mode, tie, tasks, jobs, horizon, line)
     }
 }
 
@@ -101,10 +110,18 @@ pub(crate) fn try_run(
     own: &mut Line,
 ) -> Record {
     let held = held_jobs(jobs, key);
-    let end = fly(case.se, tasks, held, ticks_of(key, case.horizon), true, own);
+    let end = fly(
+        case.se,
+        tasks,
+        held,
+        ticks_of(key, case.horizon),
+        case.way,
+        own,
+    );
     let mut line = no_line();
     let ran = lent_run(
         mode_of(case.se),
+        tie_of(case.way),
         tasks,
         jobs,
         case.horizon,
@@ -163,15 +180,16 @@ pub(crate) fn try_fresh(t: &mut Tally, tasks: &[u32], jobs: &[u32], stale: Recor
 }
 
 // What a step comes to, as a number: its outcome, where the entry, the words and the record are as they must be.
-fn step_told(got: Stepped, s: Sim, se: bool, tasks: &[u32], jobs: &[u32]) -> u64 {
+fn step_told(got: Stepped, s: Sim, case: Case, tasks: &[u32], jobs: &[u32]) -> u64 {
     let r = ready_now(s, tasks, jobs);
-    let next = leap(s, se, tasks, jobs, r.first, s.now % 65536 + 1);
+    let x = chosen(s, tasks, jobs, case.way);
+    let next = leap(s, case.se, tasks, jobs, x, s.now % 65536 + 1);
     let outcome = got.outcome;
     let record = got.record;
     let words = (got.ready == r.word) & (got.ones == r.ones) & (got.ended == next.cut);
     told(
         of_outcome(outcome),
-        got.entry == entry_of(r.first),
+        got.entry == entry_of(x),
         words,
         holds(record, jobs, next),
     )
@@ -187,6 +205,15 @@ fn refused_told(got: Stepped) -> u64 {
     told(of_outcome(outcome), got.entry == 0, words, blank)
 }
 
+// What stood before a step: where the ways to choose differ, and what the job before has come to.
+fn count_before(t: &mut Tally, case: Case, tasks: &[u32], jobs: &[u32], s: Sim) {
+    let stay = chosen(s, tasks, jobs, STAYING);
+    if stay != chosen(s, tasks, jobs, LOWEST) {
+        add(t, TIES_DIFFER + (case.way % 2) as usize, 1);
+    }
+    add(t, AFTER + before(s, tasks, jobs) % 16, 1);
+}
+
 // One step from any record. The record after it is the answer.
 pub(crate) fn try_step(
     t: &mut Tally,
@@ -199,15 +226,18 @@ pub(crate) fn try_step(
         record_key(case, tasks, jobs, rec),
         late(rec.tick == 16384, 12),
     );
-    let stepped = rec.step(mode_of(case.se), tasks, jobs);
+    let stepped = rec.step(mode_of(case.se), tie_of(case.way), tasks, jobs);
     let got = if key == FINE {
-        step_told(stepped, taken_up(rec, jobs), case.se, tasks, jobs)
+        step_told(stepped, taken_up(rec, jobs), case, tasks, jobs)
     } else {
         refused_told(stepped)
     };
     note(t, STEP, rec.tick, refusal(key), got);
     if stepped.ended != 0 {
         add(t, ENDING, 1);
+    }
+    if key == FINE {
+        count_before(t, case, tasks, jobs, taken_up(rec, jobs));
     }
     stepped.record
 }

@@ -48,6 +48,10 @@ pub(crate) const LATE_TURNS: usize = 37;
 
 pub(crate) const ENDING: usize = 97;
 
+pub(crate) const TIES_DIFFER: usize = 98;
+
+pub(crate) const AFTER: usize = 100;
+
 pub(crate) const UNLIKE_OURS: usize = 2;
 
 const MADE: usize = 31;
@@ -179,7 +183,12 @@ pub(crate) fn report(t: &Tally) {
         6,
     );
     line(t, b"  fresh done:", FRESH, 1);
-    line(t, b"  step done, ending a job:", STEP, 2);
+    line(
+        t,
+        b"  step done, ending a job, where the ties differ taking the lowest, staying; after idle, a job that may run, finished, ended, to come, suspended, lower:",
+        STEP,
+        11,
+    );
     line(
         t,
         b"  verdict met, ended, open, late by at least, by exactly:",
@@ -215,6 +224,7 @@ pub(crate) fn print_input(case: Case, tasks: &[u32], jobs: &[u32]) {
     say(b"  in trial ", case.trial as u64);
     say(b", horizon ", case.horizon as u64);
     say(b", entries ", case.room as u64);
+    say(b", tie ", case.way as u64);
     numbers(b"\n  tasks", tasks);
     numbers(b"  jobs", jobs);
 }

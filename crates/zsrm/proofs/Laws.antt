@@ -1,6 +1,7 @@
 -- The laws, one file per notion: proved once, and cited from then on.
 pub mod Places
 pub mod Tick
+pub mod Choice
 pub mod Consistent
 pub mod Ready
 pub mod View
@@ -16,6 +17,7 @@ pub mod Assumption
 pub mod Verdicts
 pub mod Said
 pub mod Answers
+pub mod Ties
 pub mod Exactly
 pub mod Called
 pub mod Bytes

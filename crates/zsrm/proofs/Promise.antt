@@ -1,4 +1,4 @@
--- The promises, for every input, either mode, and every legal schedule, ours and any other. Read this file first.
+-- The promises, for every input, either mode, either tie choice, and every legal schedule, ours and any other. Read this file first.
 --
 -- `claimAnswer g horizon schedule` is what the claim check answers: each `..Answer`, and for the calls from C each `..Result`, is the whole
 -- contract of its function in src/, which takes any input and returns; with `runSchedule` and `runBytes` for what a run writes. `checkLists`,
@@ -7,8 +7,9 @@
 -- `late n isExact`, `ended`, `outside i`, `notMissed`, `acceptedLate n isExact`, `acceptedEnded`, `unfinished`, `finishedAt f`,
 -- `endedIn e`. `recordBefore g schedule t` is the record before tick t of the schedule, `replayed g schedule` the one at its end, and
 -- `replay g r entries` the one that entries lead to from r; `suspendedAt r j` and `waitedAt r j` are the ticks that a record counts for job
--- j as suspended while alive and as eligible while another job ran. All of them are definitions of specs/. Laws/Promises has
--- `topmost-example`, a table that meets the premise of (ii).
+-- j as suspended while alive and as eligible while another job ran. Steps and runs take a tie choice, `Stay` or `Lowest`, and `r .previous`
+-- is what r keeps as the entry before its tick; a caller may hand in any job there. All of them are definitions of specs/. Laws/Promises
+-- has `topmost-example`, a table that meets the premise of (ii), and Traced `ties-differ`, a record from which the tie choices differ.
 use Prim.Native.Nat.{_*_, _+_, _-_, _<_, ℕ, _≤_}
 use mathlib.Core.Bool.{Bool, false, true}
 use mathlib.Core.List.{List}
@@ -17,7 +18,10 @@ use mathlib.Core.Path.{ap, refl, subst, sym, _≡_, _∙_}
 use native.Mathlib.Omega.{arith}
 use lib.ListN.{getD, length}
 use Rattle.zsrm.specs.declared.answers.Judged.{Judged}
+use Rattle.zsrm.specs.declared.answers.Stepped.{Stepped}
 use Rattle.zsrm.specs.declared.record.Record.{Record}
+use Rattle.zsrm.specs.declared.tie.Tie.{Tie}
+use Rattle.zsrm.specs.declared.tie.Tie.the-variants.{Lowest, Stay}
 use Rattle.zsrm.specs.declared.record.Standing.the-variants.{Finished, Ended}
 use Rattle.zsrm.specs.Answers.{checkSchedule, checkStep, checkVerdict, checkWitness, claimAnswer, freshAnswer, ran, refusedStep, responseAnswer, judgedAt, runAnswer, runSchedule, stepAnswer, stepped, stepsFrom, verdictAnswer, verdictsAnswer, witnessAnswer}
 use Rattle.zsrm.specs.Record.{blank, consistent, fresh, standingAt, suspendedAt, waitedAt}
@@ -27,16 +31,20 @@ use Rattle.zsrm.specs.Said.{acceptedEnded, acceptedLate, claimSaid, ende
 use Rattle.tables.specs.Said.{done, outcomeSaid, refused}
 use Rattle.zsrm.specs.Given.{Given}
 use Rattle.tables.specs.Tables.{arrival, deadline, deadlineInstant, idle, jobCount, jobCriticality, taskOf, zeroSlackInstant, lists, execution, jobNominal}
+use Rattle.zsrm.specs.Tick.{candidate, choice}
 use Rattle.zsrm.specs.Topmost.{Topmost, assured}
 use Rattle.zsrm.specs.Verdict.{emptyPart}
 use Rattle.zsrm.proofs.Laws.Answers.{is-legal, met-answer, run-claim, run-outcome}
 use Rattle.zsrm.proofs.Laws.Assumption.{ended-broken, first-outside}
 use Rattle.zsrm.proofs.Laws.Consistent.{pending-alive}
-use Rattle.zsrm.proofs.Laws.Promises.{ended-accepted, late-accepted, met-not-missed, ran-consistent, ran-entry, ran-replayed, ran-step-done, ran-steps, run-checked, run-refused-keeps, shown-entries, shown-from, shown-length, response-made, outside-answered}
+use Rattle.zsrm.proofs.Laws.Promises.{ended-accepted, late-accepted, met-not-missed, ran-consistent, ran-entry, ran-replayed, ran-step-done, ran-steps, run-checked, run-refused-keeps, shown-entries, shown-from, shown-length, step-stays, response-made, outside-answered}
+use Rattle.zsrm.proofs.Laws.Places.{previous-advanced}
 use Rattle.zsrm.proofs.Laws.Replay.{legal-at, legal-may, replayed-is, tick-recordBefore}
 use Rattle.bits.proofs.Below.{getD-list}
+use Rattle.bits.proofs.Bools.{fails}
 use Rattle.zsrm.proofs.Laws.Said.{finish-told, standing-said}
 use Rattle.zsrm.proofs.Laws.Tick.{dispatch-serves, past-exactly}
+use Rattle.zsrm.proofs.Laws.Ties.{run-ties}
 use Rattle.zsrm.proofs.Laws.Topmost.{assured-in-time, topmost-finished, topmost-unsuspended, topmost-within}
 use Rattle.zsrm.proofs.Readings.{LeastIllegal, LegalAt, FirstOutside, Within}
 use Rattle.zsrm.proofs.Laws.Verdicts.{legal-consistent}
@@ -54,11 +62,11 @@ pub fresh-checked : (tasks jobs : List ℕ) → freshAnswer tasks jobs .outcome 
 unfolding freshAnswer ran
 fresh-checked tasks jobs = refl
 
-pub step-checked : (g : Given) (r : Record) → stepAnswer g r .outcome ≡ checkStep g r
-step-checked g r = exactly.step-checked g r
+pub step-checked : (g : Given) (tie : Tie) (r : Record) → stepAnswer g tie r .outcome ≡ checkStep g r
+step-checked g tie r = exactly.step-checked g tie r
 
-pub run-outcome-checked : (g : Given) (horizon : ℕ) (lent : List ℕ) → runAnswer g horizon lent .outcome ≡ checkSchedule (g .lists) horizon (length lent)
-run-outcome-checked g horizon lent = run-outcome g horizon lent
+pub run-outcome-checked : (g : Given) (tie : Tie) (horizon : ℕ) (lent : List ℕ) → runAnswer g tie horizon lent .outcome ≡ checkSchedule (g .lists) horizon (length lent)
+run-outcome-checked g tie horizon lent = run-outcome g tie horizon lent
 
 pub claim-refused : (g : Given) (horizon : ℕ) (schedule : List ℕ) (number place : ℕ)
     → claimSaid (claimAnswer g horizon schedule) ≡ refused number place ↔ outcomeSaid (checkSchedule (g .lists) horizon (length schedule)) ≡ refused number place
@@ -95,14 +103,14 @@ pub fresh-done : (tasks jobs : List ℕ) → outcomeSaid (freshAnswer tasks jobs
 fresh-done tasks jobs ok = exactly.fresh-done tasks jobs ok
 
 -- Where our run is refused, the lent list keeps what it held and the record is blank.
-pub refused-keeps : (g : Given) (horizon : ℕ) (lent : List ℕ) (number place : ℕ) → outcomeSaid (runAnswer g horizon lent .outcome) ≡ refused number place
-    → (runSchedule g horizon lent ≡ lent) × (runAnswer g horizon lent .«record» ≡ blank)
-refused-keeps g horizon lent number place says = run-refused-keeps g horizon lent number place says
+pub refused-keeps : (g : Given) (tie : Tie) (horizon : ℕ) (lent : List ℕ) (number place : ℕ) → outcomeSaid (runAnswer g tie horizon lent .outcome) ≡ refused number place
+    → (runSchedule g tie horizon lent ≡ lent) × (runAnswer g tie horizon lent .«record» ≡ blank)
+refused-keeps g tie horizon lent number place says = run-refused-keeps g tie horizon lent number place says
 
 -- Where a step is refused, its record is blank and every other number in it is 0 (`refusedStep`).
-pub refused-step : (g : Given) (r : Record) (number place : ℕ) → outcomeSaid (stepAnswer g r .outcome) ≡ refused number place
-    → (stepAnswer g r .«record» ≡ blank) × (stepAnswer g r ≡ refusedStep number place)
-refused-step g r number place says = exactly.step-blank g r number place says
+pub refused-step : (g : Given) (tie : Tie) (r : Record) (number place : ℕ) → outcomeSaid (stepAnswer g tie r .outcome) ≡ refused number place
+    → (stepAnswer g tie r .«record» ≡ blank) × (stepAnswer g tie r ≡ refusedStep number place)
+refused-step g tie r number place says = exactly.step-blank g tie r number place says
 
 -- Where the checks of their bytes refuse, both calls from C give the number plus 256 times the place; that they refuse nowhere else is
 -- `c-run-exactly`, `c-legal-exactly` and `c-not-legal-exactly`.
@@ -118,33 +126,64 @@ c-refused-keeps = c-run-kept
 -- ## Demand 2: ticks, claims and witnesses are those of the rules
 
 -- A step that is done is the tick of the rules (`stepped`).
-pub step-is-tick : (g : Given) (r : Record) → outcomeSaid (stepAnswer g r .outcome) ≡ done → stepAnswer g r ≡ stepped g r
-step-is-tick g r ok = exactly.step-done g r ok
+pub step-is-tick : (g : Given) (tie : Tie) (r : Record) → outcomeSaid (stepAnswer g tie r .outcome) ≡ done → stepAnswer g tie r ≡ stepped g tie r
+step-is-tick g tie r ok = exactly.step-done g tie r ok
 
--- Our run, where it is done.
-module _ (g : Given) (horizon : ℕ) (lent : List ℕ) (ok : outcomeSaid (runAnswer g horizon lent .outcome) ≡ done) where
+-- Our run, where it is done, under either tie choice.
+module _ (g : Given) (tie : Tie) (horizon : ℕ) (lent : List ℕ) (ok : outcomeSaid (runAnswer g tie horizon lent .outcome) ≡ done) where
   -- Its schedule is legal: the claim check answers legal on what it wrote.
-  pub run-is-legal : claimSaid (claimAnswer g horizon (runSchedule g horizon lent)) ≡ legal
+  pub run-is-legal : claimSaid (claimAnswer g horizon (runSchedule g tie horizon lent)) ≡ legal
   unfolding claimSaid
-  run-is-legal = ap claimSaid (run-claim g horizon lent (run-checked g horizon lent ok))
+  run-is-legal = ap claimSaid (run-claim g tie horizon lent (run-checked g tie horizon lent ok))
 
   -- The record it returns is the one at that schedule's end ..
-  pub run-record : runAnswer g horizon lent .«record» ≡ replayed g (runSchedule g horizon lent)
-  run-record = ran-replayed g horizon lent (run-checked g horizon lent ok)
+  pub run-record : runAnswer g tie horizon lent .«record» ≡ replayed g (runSchedule g tie horizon lent)
+  run-record = ran-replayed g tie horizon lent (run-checked g tie horizon lent ok)
 
   -- .. and is consistent.
-  pub run-consistent : consistent g (runAnswer g horizon lent .«record») ≡ true
-  run-consistent = ran-consistent g horizon lent (run-checked g horizon lent ok)
+  pub run-consistent : consistent g (runAnswer g tie horizon lent .«record») ≡ true
+  run-consistent = ran-consistent g tie horizon lent (run-checked g tie horizon lent ok)
 
-  -- It is also what `step` gives, repeated from the fresh record as often as the horizon says (`stepsFrom g r n`: n times from r) ..
-  pub run-is-steps : runAnswer g horizon lent .«record» ≡ stepsFrom g (freshAnswer (g .lists .tasks) (g .lists .jobs) .«record») horizon
-  run-is-steps = ran-steps g horizon lent (run-checked g horizon lent ok)
+  -- It is also what `step` gives, repeated from the fresh record as often as the horizon says (`stepsFrom g tie r n`: n times from r) ..
+  pub run-is-steps : runAnswer g tie horizon lent .«record» ≡ stepsFrom g tie (freshAnswer (g .lists .tasks) (g .lists .jobs) .«record») horizon
+  run-is-steps = ran-steps g tie horizon lent (run-checked g tie horizon lent ok)
 
   -- .. where each of those steps is done, and gives the schedule's entry of its tick.
   pub run-each-step : (t : ℕ) → t < horizon
-      → (outcomeSaid (stepAnswer g (stepsFrom g (freshAnswer (g .lists .tasks) (g .lists .jobs) .«record») t) .outcome) ≡ done)
-      × (getD (runSchedule g horizon lent) t idle ≡ stepAnswer g (stepsFrom g (freshAnswer (g .lists .tasks) (g .lists .jobs) .«record») t) .entry)
-  run-each-step t l = let c = run-checked g horizon lent ok in (ran-step-done g horizon lent c t l, ran-entry g horizon lent c t l)
+      → (outcomeSaid (stepAnswer g tie (stepsFrom g tie (freshAnswer (g .lists .tasks) (g .lists .jobs) .«record») t) .outcome) ≡ done)
+      × (getD (runSchedule g tie horizon lent) t idle ≡ stepAnswer g tie (stepsFrom g tie (freshAnswer (g .lists .tasks) (g .lists .jobs) .«record») t) .entry)
+  run-each-step t l = let c = run-checked g tie horizon lent ok in (ran-step-done g tie horizon lent c t l, ran-entry g tie horizon lent c t l)
+
+-- From the fresh record both tie choices make the same run, refusals too: the same answer, and the same entries written.
+pub ties-agree : (g : Given) (horizon : ℕ) (lent : List ℕ)
+    → (runAnswer g Stay horizon lent ≡ runAnswer g Lowest horizon lent) × (runSchedule g Stay horizon lent ≡ runSchedule g Lowest horizon lent)
+ties-agree g horizon lent = run-ties g horizon lent
+
+-- A step that is done keeps its entry, which the next step finds as the previous one.
+pub step-keeps : (g : Given) (tie : Tie) (r : Record) → outcomeSaid (stepAnswer g tie r .outcome) ≡ done → stepAnswer g tie r .«record» .previous ≡ stepAnswer g tie r .entry
+unfolding stepped
+step-keeps g tie r ok =
+    let s = step-is-tick g tie r ok in
+    ap (λ (x : Stepped). x .«record» .previous) s ∙ previous-advanced g r (choice g tie r) ∙ sym (ap (λ (x : Stepped). x .entry) s)
+
+-- Under Stay the job of the previous tick goes on while it is a candidate, from any record that a step takes ..
+module _ (g : Given) (r : Record) (ok : outcomeSaid (stepAnswer g Stay r .outcome) ≡ done) (job : r .previous < jobCount (g .lists .jobs)) where
+  pub stays : candidate g r (r .previous) ≡ true → stepAnswer g Stay r .entry ≡ r .previous
+  stays may = step-stays g r (step-is-tick g Stay r ok) job may
+
+  -- .. so another job, or none, runs only where that job is no longer a candidate ..
+  pub switches : (stepAnswer g Stay r .entry ≡ r .previous → ⊥) → candidate g r (r .previous) ≡ false
+  switches other = fails (candidate g r (r .previous)) (λ may. other (stays may))
+
+-- .. and from one step to the next the entry changes from a job to another, or to idle, only where the first is no longer a candidate.
+module _ (g : Given) (tie : Tie) (r : Record) (ok : outcomeSaid (stepAnswer g tie r .outcome) ≡ done) (job : stepAnswer g tie r .entry < jobCount (g .lists .jobs)) where
+  pub switches-next : outcomeSaid (stepAnswer g Stay (stepAnswer g tie r .«record») .outcome) ≡ done
+      → (stepAnswer g Stay (stepAnswer g tie r .«record») .entry ≡ stepAnswer g tie r .entry → ⊥)
+      → candidate g (stepAnswer g tie r .«record») (stepAnswer g tie r .entry) ≡ false
+  switches-next next other =
+      let kept = step-keeps g tie r ok in
+      subst (λ (e : ℕ). candidate g (stepAnswer g tie r .«record») e ≡ false) kept
+      (switches g (stepAnswer g tie r .«record») next (subst (λ (e : ℕ). e < jobCount (g .lists .jobs)) (sym kept) job) (λ q. other (q ∙ kept)))
 
 -- A claim is answered "legal" exactly when its input passes the checks and every one of its ticks is legal, earlier entries taken as
 -- given (`LegalAt` in Readings) ..
@@ -254,10 +293,10 @@ module _ (g : Given) (horizon : ℕ) (schedule : List ℕ) where
 -- bytes that a run then has written are our run's, and the claim check calls them legal.
 module _ (mode : ℕ) (tasks jobs : List ℕ) (horizon : ℕ) (bytes : List ℕ) where
   pub c-run-done : runResult mode tasks jobs horizon bytes ≡ 0
-      → (outcomeSaid (runAnswer (givenBytes mode tasks jobs) horizon (numbers2 bytes) .outcome) ≡ done)
-      × (runBytes mode tasks jobs horizon bytes ≡ bytes2 (runSchedule (givenBytes mode tasks jobs) horizon (numbers2 bytes)))
+      → (outcomeSaid (runAnswer (givenBytes mode tasks jobs) Stay horizon (numbers2 bytes) .outcome) ≡ done)
+      × (runBytes mode tasks jobs horizon bytes ≡ bytes2 (runSchedule (givenBytes mode tasks jobs) Stay horizon (numbers2 bytes)))
   unfolding outcomeSaid
-  c-run-done e = let w = c-run-zero mode tasks jobs horizon bytes e in (ap outcomeSaid (run-outcome _ horizon (numbers2 bytes) ∙ w .0), w .1)
+  c-run-done e = let w = c-run-zero mode tasks jobs horizon bytes e in (ap outcomeSaid (run-outcome _ Stay horizon (numbers2 bytes) ∙ w .0), w .1)
 
   pub c-run-exactly : runResult mode tasks jobs horizon bytes ≡ 0 ↔ outcomeSaid (checkBytes mode tasks jobs horizon (length bytes)) ≡ done
   c-run-exactly = called.c-run-exactly mode tasks jobs horizon bytes

@@ -1,11 +1,12 @@
 -- Document 01 with its "some", "every", "exactly when", "least" and "lowest" said by quantifiers, sentence by sentence in its order, each
 -- proved of the definition that computes it. A test holds where it is `true`; a later sentence uses the words of earlier ones.
 -- g is what is given, r the record at tick t, e the tick's entry, p the entry before.
-use Prim.Native.Nat.{_+_, _-_, _<_, suc, ℕ, _≤_}
+use Prim.Native.Nat.{_+_, _-_, _<_, suc, zero, ℕ, _≤_}
 use mathlib.Core.Bool.{_&&_, Bool, cond, false, or-assoc, true}
-use mathlib.Core.List.{List, _∷_}
+use mathlib.Core.List.{List, [], _∷_}
 use mathlib.Core.Logic.{Iff·rfl, Iff·trans, inl, inr, _↔_, _≢_, _⊎_, ⊎-elim}
 use mathlib.Core.Path.{ap, refl, subst, sym, _∙_, _≡_}
+use native.Mathlib.Nat.{not-suc-le-zero}
 use native.Mathlib.Omega.{arith}
 use lib.Count.{ones}
 use lib.Dec.{eqb, leb, ltb}
@@ -14,23 +15,25 @@ use borrow.Author.Tests.{eq-eqb, eqb-false, eqb-true, le-leb, leb-false, leb-tru
 use Rattle.bits.specs.Below.{bit, least, some}
 use Rattle.bits.proofs.Below.{least-found, some-true}
 use Rattle.bits.proofs.Bools.{by-cond, clash, fails}
-use Rattle.bits.proofs.Readings.{and-fails, and-reads, eq-reads, least-none-reads, least-reads, lt-fails, lt-reads, none-reads, not-reads, or-else, or-reads, some-reads}
+use Rattle.bits.proofs.Readings.{and-fails, and-reads, eq-reads, least-reads, lt-fails, lt-reads, none-reads, not-reads, or-else, or-reads, some-reads}
 use Rattle.bits.proofs.Word.{bit-word}
 use Rattle.zsrm.specs.declared.answers.Claim.the-variants.{Legal, NotLegal}
 use Rattle.zsrm.specs.declared.answers.Verdict.{Verdict}
 use Rattle.zsrm.specs.declared.answers.Witness.{Witness}
 use Rattle.zsrm.specs.declared.record.Record.{Record}
+use Rattle.zsrm.specs.declared.tie.Tie.{Tie}
+use Rattle.zsrm.specs.declared.tie.Tie.the-variants.{Lowest, Stay}
 use Rattle.zsrm.specs.declared.record.Standing.{Standing}
 use Rattle.zsrm.specs.declared.record.Standing.the-variants.{Ended, Finished, NotArrived, Unfinished}
 use Rattle.zsrm.specs.declared.mode.Mode.the-variants.{SE}
 use Rattle.zsrm.specs.Legal.{claim, candidateOrIdle, finishedAt, legalEntry, schedulingInstant, instantBy, isLegal, legalFrom, legalLength}
-use Rattle.zsrm.specs.Record.{consistent, doneAt, fresh, standingAt, suspendedAt, waitedAt}
+use Rattle.zsrm.specs.Record.{consistent, doneAt, fresh, placeAt, standingAt, suspendedAt, waitedAt}
 use Rattle.zsrm.specs.Given.{isSE, Given}
-use Rattle.zsrm.specs.Run.{replayed, recordBefore}
+use Rattle.zsrm.specs.Run.{replay, replayed, recordAt, recordBefore}
 use Rattle.tables.specs.Tables.{arrival, deadlineInstant, execution, idle, jobCount, jobCriticality, jobNominal, jobPriority, zeroSlackInstant}
-use Rattle.zsrm.specs.Tick.{advanced, alive, candidate, choice, doneAfter, eligible, endedWord, ends, finishes, jobWord, moreCritical, over, pastZeroSlack, readyAt, readyCount, readyWord, someJob, suspended, suspendedAfter, waitedAfter, waits}
+use Rattle.zsrm.specs.Tick.{advanced, alive, candidate, choice, doneAfter, eligible, endedWord, ends, finishes, goesOn, jobWord, keeps, lowest, moreCritical, over, pastZeroSlack, placeAfter, readyAt, readyCount, readyWord, someJob, standingAfter, suspended, suspendedAfter, waitedAfter, waits}
 use Rattle.zsrm.specs.Verdict.{answered, blamed, judged, missed, verdict, witness, breaks, isOutside, outsider}
-use Rattle.zsrm.proofs.Laws.Places.{done-advanced, alive-unfinished, standing-alive, suspended-advanced, waited-advanced}
+use Rattle.zsrm.proofs.Laws.Places.{done-advanced, alive-unfinished, previous-advanced, standing-alive, suspended-advanced, waited-advanced}
 use Rattle.zsrm.proofs.Laws.Ready.{ready-ones, ready-exactly}
 use Rattle.zsrm.proofs.Laws.Replay.{legal-at, Beginning, beginning, beginning-is}
 use Rattle.zsrm.proofs.Laws.Answers.{whole-legal}
@@ -39,6 +42,7 @@ use Rattle.zsrm.proofs.Laws.Tick.{Raised, done-idle, done-ran, eligible
 use Rattle.zsrm.specs.declared.answers.Verdict.the-variants as verdicts
 use Rattle.zsrm.specs.declared.answers.Witness.the-variants as witnesses
 use Rattle.zsrm.specs.declared.answers.Claim.the-variants as claims
+use Rattle.zsrm.proofs.Laws.Choice as choices
 
 -- some job of the list; every job of the list
 abbrev pub SomeJob : Given → (ℕ → Type 0) → Type 0
@@ -53,8 +57,8 @@ apart z = absurd (omega arith)
 
 -- ## The record
 
--- "It is consistent when" t ≤ 16,384 and every place is sound and accounted for: `Sound` and `Accounted`, in Laws/Consistent, have the
--- list's sentences, by the standing.
+-- "It is consistent when" t ≤ 16,384, the previous entry is sound, and every place is sound and accounted for: `Previous`, `Sound` and
+-- `Accounted`, in Laws/Consistent, have the sentences, the last two by the standing.
 pub consistent-reads : (g : Given) (r : Record) → consistent g r ≡ true ↔ Consistent g r
 consistent-reads = consistency
 
@@ -85,15 +89,24 @@ module _ (g : Given) (r : Record) where
       ↔ (eligible g r j ≡ true) × EveryJob g (λ i. eligible g r i ≡ true → jobPriority (g .lists) i ≤ jobPriority (g .lists) j)
   candidate-reads = candidate-exactly g r
 
-  -- "A candidate runs if there is one; otherwise the tick is idle. Where several are candidates our run takes the lowest job number."
-  pub choice-idle : jobCount (g .lists .jobs) ≤ 64 → choice g r ≡ idle ↔ EveryJob g (λ j. candidate g r j ≡ false)
-  unfolding choice
-  choice-idle few = least-none-reads (candidate g r) (jobCount (g .lists .jobs)) idle (omega arith)
+  -- "A candidate runs if there is one; otherwise the tick is idle."
+  pub choice-idle : jobCount (g .lists .jobs) ≤ 64 → (tie : Tie) → choice g tie r ≡ idle ↔ EveryJob g (λ j. candidate g r j ≡ false)
+  choice-idle few tie = choices.choice-idle g few tie r
+
+  -- "The run's tie choice becomes: keep the job of the previous tick if it is still a candidate, else the lowest number." The lowest
+  -- number always is what `Lowest` asks for.
+  pub choice-keeps : r .previous < jobCount (g .lists .jobs) → candidate g r (r .previous) ≡ true → choice g Stay r ≡ r .previous
+  choice-keeps l c = choices.choice-kept g r l c
+
+  pub choice-else : (r .previous < jobCount (g .lists .jobs) → candidate g r (r .previous) ≡ true → ⊥) → choice g Stay r ≡ choice g Lowest r
+  choice-else never =
+      choices.choice-else g Stay r (fails (keeps g Stay r) (λ k. let w = choices.keeps-reads g Stay r .0 k in never (w .1) (w .2)))
+      ∙ sym (choices.choice-lowest g r)
 
   pub choice-job : jobCount (g .lists .jobs) ≤ 64 → (j : ℕ) → j < jobCount (g .lists .jobs)
-      → choice g r ≡ j ↔ (candidate g r j ≡ true) × ((i : ℕ) → i < j → candidate g r i ≡ false)
-  unfolding choice
-  choice-job few j l = least-reads (candidate g r) (jobCount (g .lists .jobs)) idle j l (omega arith)
+      → choice g Lowest r ≡ j ↔ (candidate g r j ≡ true) × ((i : ℕ) → i < j → candidate g r i ≡ false)
+  unfolding lowest
+  choice-job few j l = rw (choices.choice-lowest g r) (least-reads (candidate g r) (jobCount (g .lists .jobs)) idle j l (omega arith))
 
 -- what the tick does, its entry e being given
 module _ (g : Given) (r : Record) (e : ℕ) where
@@ -106,6 +119,10 @@ module _ (g : Given) (r : Record) (e : ℕ) where
 
   pub doneAfter-held : (j : ℕ) → j < 64 → doneAt (advanced g r e) j ≡ doneAfter g r e j
   doneAfter-held = done-advanced g r e
+
+  -- "The record keeps the previous entry": after the tick, the tick's own.
+  pub previous-kept : advanced g r e .previous ≡ e
+  previous-kept = previous-advanced g r e
 
   -- "if that equals c it is finished at t + 1"
   pub finishes-reads : (j : ℕ) → finishes g r e j ≡ true ↔ (e ≡ j) × (doneAfter g r e j ≡ execution (g .lists .jobs) j)
@@ -247,6 +264,25 @@ entryBefore es t = getD (idle ∷ es) t idle
 
 abbrev pub LegalAt : Given → List ℕ → ℕ → Type 0
 LegalAt g es t = legalEntry g (recordBefore g es t) (entryBefore es t) (getD es t idle) ≡ true
+
+-- The entry before is the one that the record before the tick keeps ..
+kept-at : (g : Given) (r : Record) (es : List ℕ) (t : ℕ) → t ≤ length es → recordAt g r es t .previous ≡ getD (r .previous ∷ es) t idle
+unfolding recordAt replay advanced
+kept-at g r [] zero b = refl
+kept-at g r [] (suc t) b = absurd (not-suc-le-zero b)
+kept-at g r (e ∷ es) zero b = refl
+kept-at g r (e ∷ es) (suc t) b = kept-at g (advanced g r e) es t (omega arith)
+
+pub entryBefore-kept : (g : Given) (es : List ℕ) (t : ℕ) → t ≤ length es → recordBefore g es t .previous ≡ entryBefore es t
+unfolding recordBefore fresh
+entryBefore-kept g es t b = kept-at g (fresh (g .lists .jobs)) es t b
+
+-- .. but no rule of a legal schedule looks at what the record keeps: "Legal claims .. do not change".
+pub previous-unseen : (g : Given) (r : Record) (previous last : ℕ) (es : List ℕ)
+    → legalFrom g (record { tick = r .tick; previous = previous; places = r .places }) last es ≡ legalFrom g r last es
+unfolding legalFrom legalEntry schedulingInstant instantBy candidateOrIdle candidate eligible suspended pastZeroSlack alive someJob advanced placeAfter standingAfter goesOn finishes ends over doneAfter suspendedAfter waitedAfter waits doneAt suspendedAt waitedAt standingAt placeAt
+previous-unseen g r previous last [] = refl
+previous-unseen g r previous last (e ∷ es) = refl
 
 -- "A claim is legal, or 'not legal at t' with t the least such tick."
 pub claim-legal : (g : Given) (es : List ℕ) → claim g es ≡ Legal ↔ ((t : ℕ) → t < length es → LegalAt g es t)

@@ -1,17 +1,37 @@
--- Document 01's traced schedules: what the entry points answer in each case of the table is what document 01 says. By computation.
-use mathlib.Core.List.{map}
+-- Document 01's traced schedules: what the entry points answer in each case of the table, under either tie choice, is what document 01
+-- says. By computation.
+use mathlib.Core.List.{[], _∷_, map}
 use mathlib.Core.Path.{refl, _≡_}
 use Rattle.bits.specs.Below.{count, every, greatest, least, listFrom, some, word}
-use Rattle.zsrm.specs.Answers.{checkSchedule, checkVerdict, checkWitness, claimAnswer, ran, runAnswer, runSchedule, verdictAnswer, witnessAnswer}
+use Rattle.zsrm.specs.declared.mode.Mode.{Mode}
+use Rattle.zsrm.specs.declared.mode.Mode.the-variants.{S, SE}
+use Rattle.zsrm.specs.declared.record.Record.{Record}
+use Rattle.zsrm.specs.declared.tie.Tie.{Tie}
+use Rattle.zsrm.specs.declared.tie.Tie.the-variants.{Lowest, Stay}
+use Rattle.zsrm.specs.Answers.{checkSchedule, checkVerdict, checkWitness, claimAnswer, checkStep, ran, runAnswer, runSchedule, stepAnswer, stepped, verdictAnswer, witnessAnswer}
+use Rattle.tables.specs.declared.outcome.Outcome.the-variants.{Done}
 use Rattle.tables.specs.Refusals.{unless, ascending, before, check10, check13, check2, check3, check4, check5, check6, check7, check8, check9, checkJobs, checkLists, checkTasks, outside, preceding, refuse}
+use Rattle.zsrm.specs.Given.{given}
 use Rattle.zsrm.specs.Legal.{claim, candidateOrIdle, legalEntry, schedulingInstant, instantBy, isLegal, legalFrom, legalLength}
-use Rattle.zsrm.specs.Record.{arrived, arriving, blank, consistent, doneAt, fresh, freshPlace, opening, placeAt, soundAt, standingAt, suspendedAt, waitedAt, check11}
+use Rattle.zsrm.specs.Record.{arrived, arriving, blank, consistent, doneAt, fresh, freshPlace, opening, placeAt, soundAt, soundPrevious, standingAt, suspendedAt, waitedAt, check11, check12}
 use Rattle.zsrm.specs.Run.{entriesBy, replay, runEntries, runRecord, finalBy, replayed}
 use Rattle.tables.specs.Tables.{arrival, criticality, deadline, deadlineInstant, execution, jobCount, jobCriticality, jobNominal, jobPriority, nominal, overload, period, priority, taskCount, taskOf, offset, zeroSlackInstant}
-use Rattle.zsrm.specs.Tick.{advanced, alive, candidate, choice, doneAfter, eligible, ends, finishes, goesOn, higherPriority, moreCritical, over, pastZeroSlack, placeAfter, someJob, standingAfter, suspended, suspendedAfter, waitedAfter, waits}
-use Rattle.zsrm.specs.Traced.{computed, said, table}
+use Rattle.zsrm.specs.Tick.{advanced, alive, candidate, choice, doneAfter, eligible, ends, finishes, goesOn, higherPriority, keeps, lowest, moreCritical, over, pastZeroSlack, placeAfter, someJob, standingAfter, suspended, suspendedAfter, waitedAfter, waits}
+use Rattle.zsrm.specs.Traced.{both, computed, equals, said, table}
 use Rattle.zsrm.specs.Verdict.{breaks, isOutside, outsider, verdict, witness}
 
-pub traced : map computed table ≡ map said table
-unfolding table said computed some every least greatest count word listFrom taskCount period deadline nominal overload criticality priority offset jobCount taskOf arrival execution jobCriticality jobPriority jobNominal zeroSlackInstant deadlineInstant refuse before ascending outside check2 check3 check4 checkTasks check5 preceding check6 check7 check8 checkJobs checkLists check9 check10 check11 check13 placeAt doneAt suspendedAt waitedAt standingAt blank arriving arrived opening freshPlace fresh soundAt consistent alive someJob moreCritical higherPriority pastZeroSlack suspended eligible candidate choice doneAfter over ends finishes suspendedAfter waits waitedAfter goesOn standingAfter placeAfter advanced replay entriesBy finalBy runEntries runRecord instantBy schedulingInstant candidateOrIdle legalEntry legalFrom legalLength isLegal claim verdict unless ran checkSchedule checkVerdict runAnswer runSchedule claimAnswer verdictAnswer replayed breaks isOutside outsider witness checkWitness witnessAnswer
-traced = refl
+pub traced : (tie : Tie) → map (computed tie) table ≡ map said table
+unfolding table said computed some every least greatest count word listFrom taskCount period deadline nominal overload criticality priority offset jobCount taskOf arrival execution jobCriticality jobPriority jobNominal zeroSlackInstant deadlineInstant refuse before ascending outside check2 check3 check4 checkTasks check5 preceding check6 check7 check8 checkJobs checkLists check9 check10 check11 check13 placeAt doneAt suspendedAt waitedAt standingAt blank arriving arrived opening freshPlace fresh soundAt soundPrevious consistent alive someJob moreCritical higherPriority pastZeroSlack suspended eligible candidate lowest keeps choice doneAfter over ends finishes suspendedAfter waits waitedAfter goesOn standingAfter placeAfter advanced replay entriesBy finalBy runEntries runRecord instantBy schedulingInstant candidateOrIdle legalEntry legalFrom legalLength isLegal claim verdict unless ran checkSchedule checkVerdict runAnswer runSchedule claimAnswer verdictAnswer replayed breaks isOutside outsider witness checkWitness witnessAnswer
+traced Stay = refl
+traced Lowest = refl
+
+-- The tie choices differ from a record that a caller hands in: case 10's jobs at tick 1, job 1 having run before. Stay goes on with job 1,
+-- Lowest takes job 0.
+abbrev pub handed : Mode → Record
+handed mode = replay (given mode equals both) (fresh both) (1 ∷ [])
+
+pub ties-differ : (mode : Mode) → (stepAnswer (given mode equals both) Stay (handed mode) .entry ≡ 1)
+    × (stepAnswer (given mode equals both) Lowest (handed mode) .entry ≡ 0) × (stepAnswer (given mode equals both) Lowest (handed mode) .outcome ≡ Done)
+unfolding some every least greatest listFrom taskCount period deadline nominal overload criticality priority offset jobCount taskOf arrival execution jobCriticality jobPriority jobNominal zeroSlackInstant refuse before ascending outside check2 check3 check4 checkTasks check5 preceding check6 check7 check8 checkJobs checkLists check11 placeAt doneAt suspendedAt waitedAt standingAt arriving arrived opening freshPlace fresh soundAt soundPrevious consistent alive someJob moreCritical higherPriority pastZeroSlack suspended eligible candidate lowest keeps choice doneAfter over ends finishes suspendedAfter waits waitedAfter goesOn standingAfter placeAfter advanced replay unless check12 checkStep stepAnswer stepped
+ties-differ S = (refl, refl, refl)
+ties-differ SE = (refl, refl, refl)

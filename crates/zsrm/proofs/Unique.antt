@@ -21,7 +21,7 @@ fresh-one κs a r s e f p q = p ∙ sym q
 pub step-one : (κs : Lfts 2) (a : _) (r s : _) (e f : _) → step.Learnt κs a r e → step.Learnt κs a s f → r ≡ s
 step-one κs a r s e f p q = p ∙ sym q
 
-pub run-one : (κs : Lfts 3) (a : _) (r s : _) (e f : _) → run.Learnt κs a r e → run.Learnt κs a s f → (r ≡ s) × (now (e .1 .1 .1 .1 .0) ≡ now (f .1 .1 .1 .1 .0))
+pub run-one : (κs : Lfts 3) (a : _) (r s : _) (e f : _) → run.Learnt κs a r e → run.Learnt κs a s f → (r ≡ s) × (now (e .1 .1 .1 .1 .1 .0) ≡ now (f .1 .1 .1 .1 .1 .0))
 run-one κs a r s e f p q = (p .0 ∙ sym (q .0), p .1 ∙ sym (q .1))
 
 pub claim-one : (κs : Lfts 3) (a : _) (r s : _) (e f : _) → claim.Learnt κs a r e → claim.Learnt κs a s f → r ≡ s

@@ -4,6 +4,7 @@ use Prim.Native.Nat.{ℕ, zero, suc}
 use mathlib.Core.List.{List}
 use lib.ListN.{length}
 use Rattle.zsrm.specs.declared.record.Record.{Record}
+use Rattle.zsrm.specs.declared.tie.Tie.{Tie}
 use Rattle.tables.specs.declared.outcome.Outcome.{Outcome}
 use Rattle.tables.specs.declared.outcome.Outcome.the-variants.{Done, Refused}
 use Rattle.zsrm.specs.declared.answers.Ran.{Ran}
@@ -36,15 +37,15 @@ refusedStep number place =
     record { outcome = Refused number place; «record» = blank; ready = 0; ones = 0; entry = 0; ended = 0 }
 
 -- A step reports the ready word, the number of its ones, the schedule entry and the ended word.
-unfoldable pub stepped : Given → Record → Stepped
-stepped g r =
+unfoldable pub stepped : Given → Tie → Record → Stepped
+stepped g tie r =
     record {
       outcome = Done;
-      «record» = advanced g r (choice g r);
+      «record» = advanced g r (choice g tie r);
       ready = readyWord g r;
       ones = readyCount g r;
-      entry = choice g r;
-      ended = endedWord g r (choice g r);
+      entry = choice g tie r;
+      ended = endedWord g r (choice g tie r);
     }
 
 -- The fresh record, whatever record the method is called on.
@@ -66,21 +67,21 @@ unfoldable pub checkVerdict : Given → Record → ℕ → Outcome
 checkVerdict g r j = before (checkLists (g .lists)) (before (check11 (consistent g r)) (check13 (g .lists .jobs) j))
 
 module _ (g : Given) where
-  -- The entry points that are given a mode; a fresh record needs none.
-  unfoldable pub stepAnswer : Record → Stepped
-  stepAnswer r = unless (checkStep g r) refusedStep (stepped g r)
+  -- The entry points that are given a mode; a fresh record needs none. Steps and runs are given a tie choice, too.
+  unfoldable pub stepAnswer : Tie → Record → Stepped
+  stepAnswer tie r = unless (checkStep g r) refusedStep (stepped g tie r)
 
   -- what `step` gives, repeated n times from r
-  unfoldable pub stepsFrom : Record → ℕ → Record
-  stepsFrom r zero = r
-  stepsFrom r (suc n) = stepAnswer (stepsFrom r n) .«record»
+  unfoldable pub stepsFrom : Tie → Record → ℕ → Record
+  stepsFrom tie r zero = r
+  stepsFrom tie r (suc n) = stepAnswer tie (stepsFrom tie r n) .«record»
 
-  unfoldable pub runAnswer : ℕ → List ℕ → Ran
-  runAnswer horizon schedule = ran (checkSchedule (g .lists) horizon (length schedule)) (runRecord g horizon)
+  unfoldable pub runAnswer : Tie → ℕ → List ℕ → Ran
+  runAnswer tie horizon schedule = ran (checkSchedule (g .lists) horizon (length schedule)) (runRecord g tie horizon)
 
   -- what the lent schedule holds after a run: its own entries, or what it held
-  unfoldable pub runSchedule : ℕ → List ℕ → List ℕ
-  runSchedule horizon schedule = unless (checkSchedule (g .lists) horizon (length schedule)) (λ number place. schedule) (runEntries g horizon)
+  unfoldable pub runSchedule : Tie → ℕ → List ℕ → List ℕ
+  runSchedule tie horizon schedule = unless (checkSchedule (g .lists) horizon (length schedule)) (λ number place. schedule) (runEntries g tie horizon)
 
   unfoldable pub claimAnswer : ℕ → List ℕ → Claim
   claimAnswer horizon schedule = unless (checkSchedule (g .lists) horizon (length schedule)) claims.Refused (claim g schedule)

@@ -8,6 +8,7 @@ use lib.Dec.{eqb, ltb}
 use Rattle.bits.specs.Below.{listFrom}
 use Rattle.zsrm.specs.declared.mode.Mode.{Mode}
 use Rattle.zsrm.specs.declared.mode.Mode.the-variants.{S, SE}
+use Rattle.zsrm.specs.declared.tie.Tie.the-variants.{Stay}
 use Rattle.tables.specs.declared.outcome.Outcome.{Outcome}
 use Rattle.tables.specs.declared.outcome.Outcome.the-variants.{Done, Refused}
 use Rattle.zsrm.specs.declared.answers.Claim.{Claim}
@@ -74,11 +75,11 @@ module _ (mode : ℕ) (tasks jobs : List ℕ) (horizon : ℕ) (schedule : List �
   unfoldable pub runResult : ℕ
   runResult = packedOutcome (checkBytes mode tasks jobs horizon (length schedule))
 
-  -- what the schedule's bytes are afterwards
+  -- what the schedule's bytes are afterwards: those of our run that stays with the job that runs, or what they were
   unfoldable pub runBytes : List ℕ
   runBytes =
       unless (checkBytes mode tasks jobs horizon (length schedule)) (λ number place. schedule)
-      (bytes2 (runEntries (givenBytes mode tasks jobs) horizon))
+      (bytes2 (runEntries (givenBytes mode tasks jobs) Stay horizon))
 
   unfoldable pub claimResult : ℕ
   claimResult =

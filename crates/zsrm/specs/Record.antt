@@ -1,6 +1,7 @@
--- Document 01, "The record": what stands at a place, the blank and the fresh record, and when a record is consistent.
+-- Document 01, "The record": what stands at a place, the blank and the fresh record, and when a record is consistent. The record keeps the
+-- previous entry, as request Nine says.
 use Prim.Native.Nat.{ℕ, _+_}
-use mathlib.Core.Bool.{Bool, not, _&&_, cond}
+use mathlib.Core.Bool.{Bool, not, _&&_, _||_, cond}
 use mathlib.Core.List.{List}
 use lib.ListN.{getD, replicate}
 use lib.Dec.{leb, ltb, eqb}
@@ -12,7 +13,7 @@ use Rattle.zsrm.specs.declared.record.Record.{Record}
 use Rattle.zsrm.specs.Given.{Given, isSE}
 use Rattle.tables.specs.declared.outcome.Outcome.{Outcome}
 use Rattle.tables.specs.Refusals.{refuse}
-use Rattle.tables.specs.Tables.{jobCount, arrival, execution}
+use Rattle.tables.specs.Tables.{idle, jobCount, arrival, execution}
 
 -- not arrived with 0 done, 0 suspended and 0 waited
 abbrev pub empty : Place
@@ -35,9 +36,9 @@ waitedAt r j = placeAt r j .waited
 unfoldable pub standingAt : Record → ℕ → Standing
 standingAt r j = placeAt r j .standing
 
--- A refusal's record holds tick 0 and 64 places not arrived with 0 done, 0 suspended and 0 waited.
+-- A refusal's record holds tick 0, the previous entry idle, and 64 places not arrived with 0 done, 0 suspended and 0 waited.
 unfoldable pub blank : Record
-blank = record { tick = 0; places = replicate 64 empty }
+blank = record { tick = 0; previous = idle; places = replicate 64 empty }
 
 -- The place j is a job's, and the job's arrival does not exceed t.
 unfoldable pub arrived : List ℕ → ℕ → ℕ → Bool
@@ -51,12 +52,12 @@ arriving jobs j = cond (eqb (execution jobs j) 0) (Finished (arrival jobs j)) Un
 unfoldable pub opening : List ℕ → ℕ → ℕ → Standing
 opening jobs t j = cond (arrived jobs t j) (arriving jobs j) NotArrived
 
--- The fresh record has t = 0 and nothing done.
+-- The fresh record has t = 0 and nothing done; no entry is before it.
 unfoldable pub freshPlace : List ℕ → ℕ → Place
 freshPlace jobs j = record { done = 0; suspended = 0; waited = 0; standing = opening jobs 0 j }
 
 unfoldable pub fresh : List ℕ → Record
-fresh jobs = record { tick = 0; places = listFrom 0 64 (freshPlace jobs) }
+fresh jobs = record { tick = 0; previous = idle; places = listFrom 0 64 (freshPlace jobs) }
 
 -- What consistency asks of a place at tick t, by its standing. `se` is that the mode is SE, `here` that the place is a job's which has
 -- arrived by t; a and c are that job's arrival and execution time. `a + done ≤ t` says done ≤ t − arrival.
@@ -87,9 +88,13 @@ soundAt g r j =
     (standingAt r j)
     && accounted (arrival (g .lists .jobs) j) (r .tick) (placeAt r j) (standingAt r j)
 
--- t ≤ 16,384, and every place is sound.
+-- The previous entry is idle at tick 0, later idle or a job in the list.
+unfoldable pub soundPrevious : List ℕ → ℕ → ℕ → Bool
+soundPrevious jobs t previous = eqb previous idle || (ltb 0 t && ltb previous (jobCount jobs))
+
+-- t ≤ 16,384, the previous entry is sound, and so is every place.
 unfoldable pub consistent : Given → Record → Bool
-consistent g r = leb (r .tick) 16384 && every 64 (soundAt g r)
+consistent g r = leb (r .tick) 16384 && soundPrevious (g .lists .jobs) (r .tick) (r .previous) && every 64 (soundAt g r)
 
 -- 11: the record is not consistent with the jobs
 unfoldable pub check11 : Bool → Outcome

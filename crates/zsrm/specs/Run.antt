@@ -3,6 +3,7 @@ use Prim.Native.Nat.{ℕ, zero, suc}
 use mathlib.Core.List.{List, [], _∷_}
 use lib.ListN.{take}
 use Rattle.zsrm.specs.declared.record.Record.{Record}
+use Rattle.zsrm.specs.declared.tie.Tie.{Tie}
 use Rattle.zsrm.specs.Given.{Given}
 use Rattle.zsrm.specs.Record.{fresh}
 use Rattle.zsrm.specs.Tick.{choice, advanced}
@@ -22,12 +23,12 @@ module _ (g : Given) where
   unfoldable pub finalBy : (Record → ℕ) → Record → ℕ → Record
   finalBy pick r n = replay r (entriesBy pick r n)
 
-  -- our run
-  unfoldable pub runEntries : ℕ → List ℕ
-  runEntries horizon = entriesBy (choice g) (fresh (g .lists .jobs)) horizon
+  -- our run, under either tie choice
+  unfoldable pub runEntries : Tie → ℕ → List ℕ
+  runEntries tie horizon = entriesBy (choice g tie) (fresh (g .lists .jobs)) horizon
 
-  unfoldable pub runRecord : ℕ → Record
-  runRecord horizon = finalBy (choice g) (fresh (g .lists .jobs)) horizon
+  unfoldable pub runRecord : Tie → ℕ → Record
+  runRecord tie horizon = finalBy (choice g tie) (fresh (g .lists .jobs)) horizon
 
   -- the record before tick t of a schedule that starts at r
   unfoldable pub recordAt : Record → List ℕ → ℕ → Record

@@ -1,4 +1,4 @@
--- Document 01, "One tick".
+-- Document 01, "One tick", with request Nine's tie choice.
 use Prim.Native.Nat.{ℕ, suc, _+_}
 use mathlib.Core.List.{List}
 use mathlib.Core.Bool.{Bool, true, false, not, _&&_, cond}
@@ -8,6 +8,8 @@ use Rattle.zsrm.specs.declared.record.Standing.{Standing}
 use Rattle.zsrm.specs.declared.record.Standing.the-variants.{NotArrived, Unfinished, Finished, Ended}
 use Rattle.zsrm.specs.declared.record.Place.{Place}
 use Rattle.zsrm.specs.declared.record.Record.{Record}
+use Rattle.zsrm.specs.declared.tie.Tie.{Tie}
+use Rattle.zsrm.specs.declared.tie.Tie.the-variants.{Stay, Lowest}
 use Rattle.zsrm.specs.Given.{Given, isSE}
 use Rattle.tables.specs.Tables.{idle, jobCount, execution, jobCriticality, jobPriority, jobNominal, zeroSlackInstant}
 use Rattle.zsrm.specs.Record.{doneAt, suspendedAt, waitedAt, standingAt, opening}
@@ -21,6 +23,10 @@ unfinished (Ended e) = false
 -- A job is alive if arrived, neither finished nor ended.
 unfoldable pub alive : Record → ℕ → Bool
 alive r j = unfinished (standingAt r j)
+
+abbrev pub isStay : Tie → Bool
+isStay Stay = true
+isStay Lowest = false
 
 -- The jobs that pass, as a word: bit j is set exactly when j is a job of the list and passes.
 unfoldable pub jobWord : List ℕ → (ℕ → Bool) → ℕ
@@ -56,13 +62,23 @@ module _ (g : Given) where
     unfoldable pub candidate : ℕ → Bool
     candidate j = eligible j && not (someJob (g .lists .jobs) (λ i. eligible i && higherPriority i j))
 
-    -- Our run takes the lowest job number among the candidates; with no candidate the tick is idle.
-    unfoldable pub choice : ℕ
-    choice = least (jobCount (g .lists .jobs)) candidate idle
+    -- the lowest job number among the candidates; with no candidate the tick is idle
+    unfoldable pub lowest : ℕ
+    lowest = least (jobCount (g .lists .jobs)) candidate idle
 
+  -- Stay only: the previous entry is a job of the list, and still a candidate.
+  unfoldable pub keeps : Tie → Record → Bool
+  keeps tie r = isStay tie && ltb (r .previous) (jobCount (g .lists .jobs)) && candidate r (r .previous)
+
+  -- Our run keeps the job of the previous tick if it is still a candidate, else takes the lowest number; the tie choice Lowest asks for
+  -- the lowest number always.
+  unfoldable pub choice : Tie → Record → ℕ
+  choice tie r = cond (keeps tie r) (r .previous) (lowest r)
+
+  module _ (r : Record) where
     -- Bit p of the ready word is set exactly when an eligible job of priority p exists.
     unfoldable pub readyAt : ℕ → Bool
-    readyAt p = someJob (g .lists .jobs) (λ j. eligible j && eqb (jobPriority (g .lists) j) p)
+    readyAt p = someJob (g .lists .jobs) (λ j. eligible r j && eqb (jobPriority (g .lists) j) p)
 
     unfoldable pub readyWord : ℕ
     readyWord = word 64 readyAt
@@ -83,7 +99,7 @@ module _ (g : Given) where
 
       -- SE only: over if past zero slack and its done at t, plus 1 if it runs in t, exceeds C.
       unfoldable pub over : ℕ → Bool
-      over j = isSE (g .mode) && pastZeroSlack j && ltb (jobNominal (g .lists) j) (doneAfter j)
+      over j = isSE (g .mode) && pastZeroSlack r j && ltb (jobNominal (g .lists) j) (doneAfter j)
 
       -- Every alive job that is strictly less critical than one that is over is then ended, with tick t.
       unfoldable pub ends : ℕ → Bool
@@ -95,11 +111,11 @@ module _ (g : Given) where
 
       -- A job that is suspended has one more tick suspended.
       unfoldable pub suspendedAfter : ℕ → ℕ
-      suspendedAfter j = suspendedAt r j + cond (suspended j) 1 0
+      suspendedAfter j = suspendedAt r j + cond (suspended r j) 1 0
 
       -- Eligible while another job runs: the entry is a job of the list, and not this one.
       unfoldable pub waits : ℕ → Bool
-      waits j = eligible j && ltb e (jobCount (g .lists .jobs)) && not (eqb e j)
+      waits j = eligible r j && ltb e (jobCount (g .lists .jobs)) && not (eqb e j)
 
       -- A job that waits so has one more tick waited.
       unfoldable pub waitedAfter : ℕ → ℕ
@@ -120,6 +136,6 @@ module _ (g : Given) where
       placeAfter j =
           record { done = doneAfter j; suspended = suspendedAfter j; waited = waitedAfter j; standing = standingAfter j (standingAt r j) }
 
-      -- The record comes back advanced by one tick.
+      -- The record comes back advanced by one tick, and keeps the entry.
       unfoldable pub advanced : Record
-      advanced = record { tick = suc (r .tick); places = listFrom 0 64 placeAfter }
+      advanced = record { tick = suc (r .tick); previous = e; places = listFrom 0 64 placeAfter }

@@ -9,6 +9,7 @@ use Rattle.zsrm.specs.declared.mode.Mode.{Mode}
 use Rattle.zsrm.specs.declared.mode.Mode.the-variants.{S, SE}
 use Rattle.zsrm.specs.declared.record.Standing.{Standing}
 use Rattle.zsrm.specs.declared.record.Standing.the-variants.{NotArrived, Unfinished, Finished, Ended}
+use Rattle.zsrm.specs.declared.tie.Tie.{Tie}
 use Rattle.tables.specs.declared.outcome.Outcome.{Outcome}
 use Rattle.tables.specs.declared.outcome.Outcome.the-variants.{Done}
 use Rattle.zsrm.specs.declared.answers.Claim.{Claim}
@@ -43,15 +44,15 @@ pub record Case : Type 0 where
 unfoldable pub said : Case → Trace
 said c = c .trace
 
--- what the entry points answer, the run's list being lent with zeros in it
-unfoldable pub computed : Case → Trace
-computed c =
+-- what the entry points answer, under either tie choice, the run's list being lent with zeros in it
+unfoldable pub computed : Tie → Case → Trace
+computed tie c =
     let g = c .setting in
     let h = c .horizon in
     let n = jobCount (g .lists .jobs) in
     let lent : List ℕ = replicate h 0 in
-    let ran = runAnswer g h lent in
-    let es = runSchedule g h lent in
+    let ran = runAnswer g tie h lent in
+    let es = runSchedule g tie h lent in
     record {
       outcome = ran .outcome;
       entries = es;

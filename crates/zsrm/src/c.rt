@@ -5,6 +5,7 @@ ghost use Prim.Native.Nat.{_+_, _*_, _/_, _%_, _≤_};
 ghost use lib.ListN.{length, take};
 ghost use Rattle.tables.specs.declared.outcome.Outcome.{Outcome};
 ghost use Rattle.tables.specs.Refusals.{before, check9, check10, checkLists};
+ghost use Rattle.zsrm.specs.declared.tie.Tie.{Tie};
 ghost use Rattle.zsrm.specs.Run.{runEntries};
 ghost use Rattle.zsrm.specs.Legal.{claim};
 ghost use Rattle.zsrm.specs.Given.{given};
@@ -19,6 +20,7 @@ use crate::claims::taken;
 use crate::mode::Mode;
 use crate::record::fresh_record;
 use crate::tick::View;
+use crate::tie::Tie;
 use tables::IDLE;
 use tables::Outcome;
 use tables::before;
@@ -118,17 +120,17 @@ fn packed(number: u32, place: u32) -> u32
     number + place * 256
 }
 
-// Our run from the fresh record, its entries written as bytes.
+// Our run from the fresh record, which stays with the job that runs, its entries written as bytes.
 fn run_bytes(mode: Mode, tasks: &[u32], jobs: &[u32], schedule: &mut [u8])
     requires { ⌜ checkLists (lists (now tasks) (now jobs)) ≡ Outcome.Done ⌝ }
     requires { ⌜ (length (now schedule) ≤ 32768) × (length (now schedule) % 2 ≡ 0) ⌝ }
-    ensures { λ _. ⌜ now (schedule .exit) ≡ bytes2 (runEntries (given mode (now (tasks .entry)) (now (jobs .entry))) (length (now (schedule .entry)) / 2)) ⌝ }
+    ensures { λ _. ⌜ now (schedule .exit) ≡ bytes2 (runEntries (given mode (now (tasks .entry)) (now (jobs .entry))) Tie.Stay (length (now (schedule .entry)) / 2)) ⌝ }
 {
     let ticks = schedule.len() / 2;
     let mut rec = fresh_record(jobs);
     let mut t: usize = 0;
     while t < ticks {
-        let stepped = rec.advance(mode, tasks, jobs);
+        let stepped = rec.advance(mode, Tie::Stay, tasks, jobs);
         put2(schedule, t, stepped.entry);
         let next = stepped.record;
         rec = next;
@@ -148,7 +150,7 @@ fn run_decoded<'a>(
     requires { ⌜ (n ≤ length (now tasks)) × (m ≤ length (now jobs)) ⌝ }
     requires { ⌜ checkLists (lists (take n (now tasks)) (take m (now jobs))) ≡ Outcome.Done ⌝ }
     requires { ⌜ (length (now schedule) ≤ 32768) × (length (now schedule) % 2 ≡ 0) ⌝ }
-    ensures { λ _. ⌜ now (schedule .exit) ≡ bytes2 (runEntries (given mode (take n (now (tasks .entry))) (take m (now (jobs .entry)))) (length (now (schedule .entry)) / 2)) ⌝ }
+    ensures { λ _. ⌜ now (schedule .exit) ≡ bytes2 (runEntries (given mode (take n (now (tasks .entry))) (take m (now (jobs .entry)))) Tie.Stay (length (now (schedule .entry)) / 2)) ⌝ }
 {
     run_bytes(mode, &tasks[..n], &jobs[..m], schedule);
 }

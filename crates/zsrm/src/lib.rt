@@ -11,6 +11,7 @@ mod record;
 mod runs;
 mod step;
 mod tick;
+mod tie;
 
 pub use answers::Claim;
 pub use answers::Judged;
@@ -35,3 +36,4 @@ pub use tables::Criticality;
 pub use tables::IDLE;
 pub use tables::Outcome;
 pub use tables::Priority;
+pub use tie::Tie;

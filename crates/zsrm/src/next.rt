@@ -107,6 +107,7 @@ impl Record {
             out.places[j] = next_place(place, t, ticked, j as u32, job);
             j += 1;
         }
+        out.previous = ticked.entry;
         out
     }
 }

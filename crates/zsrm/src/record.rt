@@ -1,13 +1,14 @@
-// Document 01, "The record", with request Eight's two numbers: the tick, and for each of 64 places the ticks done, suspended and waited, and
-// one standing.
+// Document 01, "The record", with request Eight's two numbers and request Nine's entry: the tick, the previous entry, and for each of 64
+// places the ticks done, suspended and waited, and one standing.
 ghost use mathlib.Core.Path.{_≡_};
 ghost use mathlib.Core.Bool.{_&&_};
 ghost use Rattle.tables.specs.Tables.{arrival, execution};
-ghost use Rattle.zsrm.specs.Record.{arrived, blank, freshPlace, fresh, soundPlace, accounted, consistent, check11, check12};
+ghost use Rattle.zsrm.specs.Record.{arrived, blank, freshPlace, fresh, soundPlace, accounted, soundPrevious, consistent, check11, check12};
 ghost use Rattle.zsrm.specs.Given.{isSE, given};
 ghost use Rattle.zsrm.specs.Code.Next.{openingOf};
 use crate::mode::Mode;
 use crate::mode::is_se;
+use tables::IDLE;
 use tables::Outcome;
 use tables::job_at;
 use tables::job_count;
@@ -33,6 +34,8 @@ pub struct Place {
 
 pub struct Record {
     pub tick: u32,
+    // the entry of the tick before; idle at tick 0
+    pub previous: u16,
     pub places: [Place; 64],
 }
 
@@ -48,6 +51,7 @@ pub(crate) fn blank() -> Record
     };
     Record {
         tick: 0,
+        previous: IDLE,
         places: [empty; 64],
     }
 }
@@ -109,6 +113,14 @@ fn is_sound_at(mode: Mode, jobs: &[u32], t: u32, j: u32, place: Place) -> bool
     sound & is_accounted(job.arrival, t, place)
 }
 
+// Whether the previous entry is idle, or after tick 0 a job in the list.
+fn is_sound_previous(jobs: &[u32], t: u32, previous: u16) -> bool
+    ensures { λ r. ⌜ r ≡ soundPrevious (now (jobs .entry)) t previous ⌝ }
+{
+    let listed = (previous as usize) < job_count(jobs);
+    (previous == IDLE) | ((0 < t) & listed)
+}
+
 // Whether the record is consistent with the jobs.
 pub(crate) fn is_consistent(rec: Record, mode: Mode, tasks: &[u32], jobs: &[u32]) -> bool
     ensures { λ r. ⌜ r ≡ consistent (given mode (now (tasks .entry)) (now (jobs .entry))) rec ⌝ }
@@ -121,7 +133,7 @@ pub(crate) fn is_consistent(rec: Record, mode: Mode, tasks: &[u32], jobs: &[u32]
         every = is_sound_at(mode, jobs, t, j as u32, place) & every;
         j += 1;
     }
-    (t <= 16384) & every
+    (t <= 16384) & is_sound_previous(jobs, t, rec.previous) & every
 }
 
 // The standing at t of a place at which nothing has run.
@@ -158,7 +170,7 @@ fn fresh_place(jobs: &[u32], j: u32) -> Place
     }
 }
 
-// t = 0 and nothing done.
+// t = 0, no entry before, and nothing done.
 pub(crate) fn fresh_record(jobs: &[u32]) -> Record
     ensures { λ r. ⌜ r ≡ fresh (now (jobs .entry)) ⌝ }
 {

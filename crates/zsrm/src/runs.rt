@@ -17,6 +17,7 @@ use crate::mode::Mode;
 use crate::record::Record;
 use crate::record::blank;
 use crate::record::fresh_record;
+use crate::tie::Tie;
 use tables::Outcome;
 use tables::before;
 use tables::check_lists;
@@ -27,19 +28,20 @@ use tables::check10;
 pub(crate) fn run_from(
     start: Record,
     mode: Mode,
+    tie: Tie,
     tasks: &[u32],
     jobs: &[u32],
     schedule: &mut [u16],
 ) -> Record
     requires { ⌜ checkLists (lists (now tasks) (now jobs)) ≡ Outcome.Done ⌝ }
     requires { ⌜ (consistent (given mode (now tasks) (now jobs)) start ≡ true) × (start .tick + length (now schedule) ≤ 16384) ⌝ }
-    ensures ends { λ r. ⌜ r ≡ finalBy (given mode (now (tasks .entry)) (now (jobs .entry))) (choice (given mode (now (tasks .entry)) (now (jobs .entry)))) start (length (now (schedule .entry))) ⌝ }
-    ensures writes { λ r. ⌜ now (schedule .exit) ≡ entriesBy (given mode (now (tasks .entry)) (now (jobs .entry))) (choice (given mode (now (tasks .entry)) (now (jobs .entry)))) start (length (now (schedule .entry))) ⌝ }
+    ensures ends { λ r. ⌜ r ≡ finalBy (given mode (now (tasks .entry)) (now (jobs .entry))) (choice (given mode (now (tasks .entry)) (now (jobs .entry))) tie) start (length (now (schedule .entry))) ⌝ }
+    ensures writes { λ r. ⌜ now (schedule .exit) ≡ entriesBy (given mode (now (tasks .entry)) (now (jobs .entry))) (choice (given mode (now (tasks .entry)) (now (jobs .entry))) tie) start (length (now (schedule .entry))) ⌝ }
 {
     let mut rec = start;
     let mut t: usize = 0;
     while t < schedule.len() {
-        let stepped = rec.advance(mode, tasks, jobs);
+        let stepped = rec.advance(mode, tie, tasks, jobs);
         schedule[t] = stepped.entry;
         let next = stepped.record;
         rec = next;
@@ -59,14 +61,21 @@ pub(crate) fn check_schedule(tasks: &[u32], jobs: &[u32], horizon: u32, entries:
 }
 
 // Our run from the fresh record, its entries written into the caller's list; refusals 2 to 10, the list then keeping its entries.
-pub fn run(mode: Mode, tasks: &[u32], jobs: &[u32], horizon: u32, schedule: &mut [u16]) -> Ran
-    ensures answers { λ r. ⌜ r ≡ runAnswer (given mode (now (tasks .entry)) (now (jobs .entry))) horizon (now (schedule .entry)) ⌝ }
-    ensures writes { λ r. ⌜ now (schedule .exit) ≡ runSchedule (given mode (now (tasks .entry)) (now (jobs .entry))) horizon (now (schedule .entry)) ⌝ }
+pub fn run(
+    mode: Mode,
+    tie: Tie,
+    tasks: &[u32],
+    jobs: &[u32],
+    horizon: u32,
+    schedule: &mut [u16],
+) -> Ran
+    ensures answers { λ r. ⌜ r ≡ runAnswer (given mode (now (tasks .entry)) (now (jobs .entry))) tie horizon (now (schedule .entry)) ⌝ }
+    ensures writes { λ r. ⌜ now (schedule .exit) ≡ runSchedule (given mode (now (tasks .entry)) (now (jobs .entry))) tie horizon (now (schedule .entry)) ⌝ }
 {
     let checked = check_schedule(tasks, jobs, horizon, schedule.len());
     match checked {
         Outcome::Done => {
-            let record = run_from(fresh_record(jobs), mode, tasks, jobs, schedule);
+            let record = run_from(fresh_record(jobs), mode, tie, tasks, jobs, schedule);
             or_blank(Outcome::Done, record)
         }
         Outcome::Refused(number, place) => or_blank(Outcome::Refused(number, place), blank()),

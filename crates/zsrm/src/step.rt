@@ -25,6 +25,7 @@ use crate::tick::View;
 use crate::tick::greatest_criticality;
 use crate::tick::less_critical_word;
 use crate::tick::overrun_word;
+use crate::tie::Tie;
 use tables::Outcome;
 use tables::before;
 use tables::check_lists;
@@ -78,13 +79,13 @@ fn check_step(rec: Record, mode: Mode, tasks: &[u32], jobs: &[u32]) -> Outcome
 
 impl Record {
     // One tick of our run, on lists that passed their checks, from a consistent record before tick 16,384.
-    pub(crate) fn advance(self, mode: Mode, tasks: &[u32], jobs: &[u32]) -> Stepped
+    pub(crate) fn advance(self, mode: Mode, tie: Tie, tasks: &[u32], jobs: &[u32]) -> Stepped
         requires { ⌜ checkLists (lists (now tasks) (now jobs)) ≡ Outcome.Done ⌝ }
         requires { ⌜ (consistent (given mode (now tasks) (now jobs)) self ≡ true) × (self .tick < 16384) ⌝ }
-        ensures { λ r. ⌜ r ≡ stepped (given mode (now (tasks .entry)) (now (jobs .entry))) self ⌝ }
+        ensures { λ r. ⌜ r ≡ stepped (given mode (now (tasks .entry)) (now (jobs .entry))) tie self ⌝ }
     {
         let seen = View::at(self, tasks, jobs);
-        let entry = seen.choice(tasks, jobs);
+        let entry = seen.choice(tie, self.previous, tasks, jobs);
         let ended = ended_word(seen, self, mode, entry, tasks, jobs);
         let record = self.after(seen.ticked(entry, ended, jobs), jobs);
         let ones = bits::ones(seen.ready);
@@ -106,12 +107,12 @@ impl Record {
     }
 
     // The record advanced by one tick, with what the tick did; refusals 2 to 8, 11, 12.
-    pub fn step(self, mode: Mode, tasks: &[u32], jobs: &[u32]) -> Stepped
-        ensures { λ r. ⌜ r ≡ stepAnswer (given mode (now (tasks .entry)) (now (jobs .entry))) self ⌝ }
+    pub fn step(self, mode: Mode, tie: Tie, tasks: &[u32], jobs: &[u32]) -> Stepped
+        ensures { λ r. ⌜ r ≡ stepAnswer (given mode (now (tasks .entry)) (now (jobs .entry))) tie self ⌝ }
     {
         let checked = check_step(self, mode, tasks, jobs);
         match checked {
-            Outcome::Done => self.advance(mode, tasks, jobs),
+            Outcome::Done => self.advance(mode, tie, tasks, jobs),
             Outcome::Refused(number, place) => refused_step(number, place),
         }
     }

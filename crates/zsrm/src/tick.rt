@@ -5,11 +5,13 @@ ghost use lib.Dec.{ltb};
 ghost use Prim.Native.Nat.{_≤_};
 ghost use Rattle.tables.specs.Tables.{jobCount, lists};
 ghost use Rattle.zsrm.specs.Tick.{unfinished, alive, jobWord};
-ghost use Rattle.zsrm.specs.Code.View.{isPast, pastWord, hasPriority, priorityWord, lowestOf, overruns, overrunWord, view, chosen, waitingWord, tickedBy, lessCriticalIn, lessCriticalWord, greatestCriticality};
+ghost use Rattle.zsrm.specs.Code.View.{isPast, pastWord, hasPriority, priorityWord, lowestOf, overruns, overrunWord, view, keepsBy, chosen, waitingWord, tickedBy, lessCriticalIn, lessCriticalWord, greatestCriticality};
 use crate::next::Ticked;
 use crate::next::one_more_if;
 use crate::record::Record;
 use crate::record::Standing;
+use crate::tie::Tie;
+use crate::tie::is_stay;
 use tables::Criticality;
 use tables::IDLE;
 use tables::Priority;
@@ -228,17 +230,26 @@ impl View {
         }
     }
 
-    // The lowest-numbered eligible job of the top priority that is ready, or idle: 64 is no priority.
-    pub(crate) fn choice(self, tasks: &[u32], jobs: &[u32]) -> u16
-        requires { ⌜ jobCount (now jobs) ≤ 64 ⌝ }
-        ensures { λ r. ⌜ r ≡ chosen (lists (now (tasks .entry)) (now (jobs .entry))) self ⌝ }
+    // Whether the tie choice is to stay, and the previous entry is an eligible job of the top priority that is ready.
+    fn keeps(self, tie: Tie, previous: u16, top: Priority, tasks: &[u32], jobs: &[u32]) -> bool
+        ensures { λ r. ⌜ r ≡ keepsBy (lists (now (tasks .entry)) (now (jobs .entry))) tie (self .eligible) (top .0) previous ⌝ }
     {
-        lowest_of(
-            self.eligible,
-            Priority(bits::highest(self.ready)),
-            tasks,
-            jobs,
-        )
+        let listed = (previous as usize) < job_count(jobs);
+        let may = has_priority(self.eligible, top, previous as u32, tasks, jobs);
+        is_stay(tie) & listed & may
+    }
+
+    // The job that stays, or the lowest-numbered eligible job of the top priority that is ready, or idle: 64 is no priority.
+    pub(crate) fn choice(self, tie: Tie, previous: u16, tasks: &[u32], jobs: &[u32]) -> u16
+        requires { ⌜ jobCount (now jobs) ≤ 64 ⌝ }
+        ensures { λ r. ⌜ r ≡ chosen (lists (now (tasks .entry)) (now (jobs .entry))) tie self previous ⌝ }
+    {
+        let top = Priority(bits::highest(self.ready));
+        if self.keeps(tie, previous, top, tasks, jobs) {
+            previous
+        } else {
+            lowest_of(self.eligible, top, tasks, jobs)
+        }
     }
 
     // What the tick does in which the entry runs and the jobs of a word are ended.

@@ -12,6 +12,7 @@ use Rattle.tables.specs.declared.outcome.Outcome.{Outcome}
 use Rattle.tables.specs.declared.outcome.Outcome.the-variants.{Done, Refused}
 use Rattle.zsrm.specs.declared.answers.Verdict.the-variants.{Met}
 use Rattle.zsrm.specs.declared.record.Record.{Record}
+use Rattle.zsrm.specs.declared.tie.Tie.{Tie}
 use Rattle.zsrm.specs.declared.record.Standing.the-variants.{Finished}
 use Rattle.zsrm.specs.Answers.{checkSchedule, checkStep, checkVerdict, claimAnswer, ran, runAnswer, runSchedule, verdictAnswer}
 use Rattle.tables.specs.Refusals.{unless, before, check10, check13, check9, checkLists, refuse}
@@ -96,27 +97,27 @@ pub schedule-checked : (l : Lists) (horizon entries : ℕ) → (entries ≡ hori
 unfolding checkSchedule
 schedule-checked l horizon entries fits = ap (before (checkLists l)) (length-fits horizon entries fits)
 
-pub run-outcome : (g : Given) (horizon : ℕ) (lent : List ℕ) → runAnswer g horizon lent .outcome ≡ checkSchedule (g .lists) horizon (length lent)
+pub run-outcome : (g : Given) (tie : Tie) (horizon : ℕ) (lent : List ℕ) → runAnswer g tie horizon lent .outcome ≡ checkSchedule (g .lists) horizon (length lent)
 unfolding runAnswer ran
-run-outcome g horizon lent = refl
+run-outcome g tie horizon lent = refl
 
 -- a run that is not refused
-pub run-given : (g : Given) (horizon : ℕ) (lent : List ℕ) → checkSchedule (g .lists) horizon (length lent) ≡ Done
-    → (runAnswer g horizon lent .«record» ≡ runRecord g horizon) × (runSchedule g horizon lent ≡ runEntries g horizon)
+pub run-given : (g : Given) (tie : Tie) (horizon : ℕ) (lent : List ℕ) → checkSchedule (g .lists) horizon (length lent) ≡ Done
+    → (runAnswer g tie horizon lent .«record» ≡ runRecord g tie horizon) × (runSchedule g tie horizon lent ≡ runEntries g tie horizon)
 unfolding runAnswer ran runSchedule
-run-given g horizon lent ok = (unless-done _ _ (checkSchedule (g .lists) horizon (length lent)) ok, unless-done _ _ (checkSchedule (g .lists) horizon (length lent)) ok)
+run-given g tie horizon lent ok = (unless-done _ _ (checkSchedule (g .lists) horizon (length lent)) ok, unless-done _ _ (checkSchedule (g .lists) horizon (length lent)) ok)
 
 -- what a run that is not refused writes is a legal claim
-pub run-claim : (g : Given) (horizon : ℕ) (lent : List ℕ) → checkSchedule (g .lists) horizon (length lent) ≡ Done
-    → claimAnswer g horizon (runSchedule g horizon lent) ≡ claims.Legal
+pub run-claim : (g : Given) (tie : Tie) (horizon : ℕ) (lent : List ℕ) → checkSchedule (g .lists) horizon (length lent) ≡ Done
+    → claimAnswer g horizon (runSchedule g tie horizon lent) ≡ claims.Legal
 unfolding claimAnswer
-run-claim g horizon lent ok =
+run-claim g tie horizon lent ok =
     let a = accepted (g .lists) horizon (length lent) ok in
-    let es = runEntries g horizon in
-    let same : length lent ≡ length es = a .whole ∙ sym (length-run g horizon) in
-    rw (run-given g horizon lent ok .1)
+    let es = runEntries g tie horizon in
+    let same : length lent ≡ length es = a .whole ∙ sym (length-run g tie horizon) in
+    rw (run-given g tie horizon lent ok .1)
     (unless-done claims.Refused (claim g es) (checkSchedule (g .lists) horizon (length es)) (rw same at ok)
-    ∙ whole-legal g es .1 (our-run-legal g (lists-few (g .lists) (a .lists)) horizon (a .bounded)))
+    ∙ whole-legal g es .1 (our-run-legal g (lists-few (g .lists) (a .lists)) tie horizon (a .bounded)))
 
 -- what a step that is not refused says of its record
 pub record Steps (g : Given) (r : Record) : Type 0 where
@@ -134,25 +135,25 @@ steps g r ok =
     record { lists = before-first (checkLists (g .lists)) _ ok; sound = sound; time = omega arith }
 
 -- the run's answer and list, where nothing is refused and where something is
-module _ (g : Given) (horizon : ℕ) (lent : List ℕ) where
-  pub run-done : checkSchedule (g .lists) horizon (length lent) ≡ Done → (made : Record) → made ≡ finalBy g (choice g) (fresh (g .lists .jobs)) (length lent) → ran Done made ≡ runAnswer g horizon lent
+module _ (g : Given) (tie : Tie) (horizon : ℕ) (lent : List ℕ) where
+  pub run-done : checkSchedule (g .lists) horizon (length lent) ≡ Done → (made : Record) → made ≡ finalBy g (choice g tie) (fresh (g .lists .jobs)) (length lent) → ran Done made ≡ runAnswer g tie horizon lent
   unfolding runAnswer runRecord
   run-done ok made e =
-      ap₂ ran (sym ok) (e ∙ ap (finalBy g (choice g) (fresh (g .lists .jobs))) (accepted (g .lists) horizon (length lent) ok .whole))
+      ap₂ ran (sym ok) (e ∙ ap (finalBy g (choice g tie) (fresh (g .lists .jobs))) (accepted (g .lists) horizon (length lent) ok .whole))
 
-  pub run-writes : checkSchedule (g .lists) horizon (length lent) ≡ Done → (l : List ℕ) → l ≡ entriesBy g (choice g) (fresh (g .lists .jobs)) (length lent) → l ≡ runSchedule g horizon lent
+  pub run-writes : checkSchedule (g .lists) horizon (length lent) ≡ Done → (l : List ℕ) → l ≡ entriesBy g (choice g tie) (fresh (g .lists .jobs)) (length lent) → l ≡ runSchedule g tie horizon lent
   unfolding runSchedule runEntries
   run-writes ok l e =
-      e ∙ ap (entriesBy g (choice g) (fresh (g .lists .jobs))) (accepted (g .lists) horizon (length lent) ok .whole)
-      ∙ sym (unless-done (λ number place. lent) (runEntries g horizon) (checkSchedule (g .lists) horizon (length lent)) ok)
+      e ∙ ap (entriesBy g (choice g tie) (fresh (g .lists .jobs))) (accepted (g .lists) horizon (length lent) ok .whole)
+      ∙ sym (unless-done (λ number place. lent) (runEntries g tie horizon) (checkSchedule (g .lists) horizon (length lent)) ok)
 
-  pub run-refused : (number place : ℕ) → checkSchedule (g .lists) horizon (length lent) ≡ Refused number place → (x : Record) → ran (Refused number place) x ≡ runAnswer g horizon lent
+  pub run-refused : (number place : ℕ) → checkSchedule (g .lists) horizon (length lent) ≡ Refused number place → (x : Record) → ran (Refused number place) x ≡ runAnswer g tie horizon lent
   unfolding runAnswer ran unless
   run-refused n p e x = rw e
 
-  pub run-keeps : (number place : ℕ) → checkSchedule (g .lists) horizon (length lent) ≡ Refused number place → lent ≡ runSchedule g horizon lent
+  pub run-keeps : (number place : ℕ) → checkSchedule (g .lists) horizon (length lent) ≡ Refused number place → lent ≡ runSchedule g tie horizon lent
   unfolding runSchedule
-  run-keeps n p e = sym (unless-refused (λ number place. lent) (runEntries g horizon) (checkSchedule (g .lists) horizon (length lent)) n p e)
+  run-keeps n p e = sym (unless-refused (λ number place. lent) (runEntries g tie horizon) (checkSchedule (g .lists) horizon (length lent)) n p e)
 
 -- what a run from the fresh record may rely on
 pub record Starts (g : Given) (lent : List ℕ) (r : Record) : Type 0 where

@@ -12,6 +12,7 @@ use Rattle.bits.specs.Below.{listFrom}
 use Rattle.bits.proofs.Below.{getD-list, length-listFrom}
 use Rattle.zsrm.specs.declared.answers.Stepped.{Stepped}
 use Rattle.zsrm.specs.declared.record.Record.{Record}
+use Rattle.zsrm.specs.declared.tie.Tie.the-variants.{Stay}
 use Rattle.tables.specs.Bytes.{numberAt}
 use Rattle.zsrm.specs.Answers.{stepped}
 use Rattle.zsrm.specs.Bytes.{bytes2, number2, numbers2, numbers4, packedClaim}
@@ -25,7 +26,7 @@ use Rattle.zsrm.proofs.Laws.Claims.{Replaying, claim-answer, replaying-
 use Rattle.zsrm.proofs.Laws.Consistent.{fresh-consistent}
 use Rattle.zsrm.proofs.Laws.Going.{Going, entries-more, entries-none, going-more, going-none, steps-entry}
 use Rattle.zsrm.proofs.Laws.Places.{tick-fresh}
-use Rattle.zsrm.proofs.Laws.Run.{choice-may}
+use Rattle.zsrm.proofs.Laws.Choice.{choice-may}
 
 take-list : (f : ℕ → ℕ) (i n m : ℕ) → n ≤ m → take n (listFrom i m f) ≡ listFrom i n f
 unfolding listFrom
@@ -111,30 +112,30 @@ put-more l e i x h t =
 -- a run from the fresh record that has written the entries of its first t ticks as bytes
 pub record Writing (g : Given) (size : ℕ) (bytes : List ℕ) (r : Record) (t : ℕ) : Type 0 where
   pub long : length bytes ≡ size
-  pub going : Going g (choice g) (fresh (g .lists .jobs)) r t
-  pub front : take (t * 2) bytes ≡ bytes2 (entriesBy g (choice g) (fresh (g .lists .jobs)) t)
+  pub going : Going g (choice g Stay) (fresh (g .lists .jobs)) r t
+  pub front : take (t * 2) bytes ≡ bytes2 (entriesBy g (choice g Stay) (fresh (g .lists .jobs)) t)
 
 module _ (g : Given) (bytes : List ℕ) (r : Record) where
   pub writing-none : r ≡ fresh (g .lists .jobs) → Writing g (length bytes) bytes r 0
   unfolding bytes2
   writing-none q =
-      record { long = refl; going = rw q (going-none g (choice g) _ (fresh-consistent g)); front = rw (entries-none g (choice g) (fresh (g .lists .jobs))) }
+      record { long = refl; going = rw q (going-none g (choice g Stay) _ (fresh-consistent g)); front = rw (entries-none g (choice g Stay) (fresh (g .lists .jobs))) }
 
   -- the tick that it has come to
   pub writing-tick : (size t : ℕ) → Writing g size bytes r t → r .tick ≡ t
   writing-tick size t w = omega (arith, w .going .time, tick-fresh (g .lists .jobs))
 
-  pub writing-more : (size t : ℕ) (s : Stepped) (after : List ℕ) → Writing g size bytes r t → t * 2 + 1 < size → t < 16384 → s ≡ stepped g r
+  pub writing-more : (size t : ℕ) (s : Stepped) (after : List ℕ) → Writing g size bytes r t → t * 2 + 1 < size → t < 16384 → s ≡ stepped g Stay r
       → after ≡ set (set bytes (t * 2) (s .entry % 256)) (t * 2 + 1) (s .entry / 256) → Writing g size after (s .«record») (t + 1)
   writing-more size t s after w b limit q p =
-      let e = steps-entry g r s q in
+      let e = steps-entry g Stay r s q in
       record {
         long = rw (p, length-set, length-set) (w .long);
-        going = going-more g (choice g) _ r (s .«record») t (w .going) (omega (arith, tick-fresh (g .lists .jobs))) (choice-may g r) (e .1);
-        front = rw (p, entries-more g (choice g) (fresh (g .lists .jobs)) t, ← w .going .is, ← e .0) (put-more bytes _ t (s .entry) (omega (arith, w .long)) (w .front));
+        going = going-more g (choice g Stay) _ r (s .«record») t (w .going) (omega (arith, tick-fresh (g .lists .jobs))) (choice-may g Stay r) (e .1);
+        front = rw (p, entries-more g (choice g Stay) (fresh (g .lists .jobs)) t, ← w .going .is, ← e .0) (put-more bytes _ t (s .entry) (omega (arith, w .long)) (w .front));
       }
 
-  pub writing-all : (size t : ℕ) → Writing g size bytes r t → size % 2 ≡ 0 → t ≡ size / 2 → bytes ≡ bytes2 (runEntries g (size / 2))
+  pub writing-all : (size t : ℕ) → Writing g size bytes r t → size % 2 ≡ 0 → t ≡ size / 2 → bytes ≡ bytes2 (runEntries g Stay (size / 2))
   unfolding runEntries
   writing-all size t w even all = rw (← all) (sym (take-all (t * 2) bytes (omega (arith, w .long))) ∙ w .front)
 

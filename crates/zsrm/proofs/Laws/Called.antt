@@ -17,6 +17,7 @@ use Rattle.tables.proofs.Laws.Accepted.{lists-few}
 use Rattle.tables.proofs.Laws.Refusals.{fine, unless-done}
 use Rattle.tables.proofs.Laws.Small.{Small, jobs-long, small, small-jobs, small-tasks, tasks-long}
 use Rattle.zsrm.specs.declared.answers.Claim.{Claim}
+use Rattle.zsrm.specs.declared.tie.Tie.the-variants.{Stay}
 use Rattle.zsrm.specs.declared.c.Called.{Called}
 use Rattle.zsrm.specs.declared.mode.Mode.{Mode}
 use Rattle.zsrm.specs.Answers.{checkSchedule, runSchedule, claimAnswer}
@@ -130,12 +131,12 @@ unpacked (claims.NotLegal t) (claims.NotLegal u) a b e = ap claims.NotLegal (ome
 -- the calls' results, where the checks pass and where they refuse
 module _ (mode : ℕ) (tasks jobs : List ℕ) (horizon : ℕ) (schedule : List ℕ) where
   module _ (r : Called) (w : Passed mode tasks jobs horizon (length schedule) r) where
-    pub c-runs : (after : List ℕ) → after ≡ bytes2 (runEntries (given (r .mode) (take (length tasks / 4) (r .tasks)) (take (length jobs / 4) (r .jobs))) (length schedule / 2))
+    pub c-runs : (after : List ℕ) → after ≡ bytes2 (runEntries (given (r .mode) (take (length tasks / 4) (r .tasks)) (take (length jobs / 4) (r .jobs))) Stay (length schedule / 2))
         → (0 ≡ runResult mode tasks jobs horizon schedule) × (after ≡ runBytes mode tasks jobs horizon schedule)
     unfolding runResult runBytes packedOutcome
     c-runs after q = (
       rw (w .checked),
-      q ∙ ap₂ (λ (g : Given) (n : ℕ). bytes2 (runEntries g n)) (w .says) (accepted _ _ _ (w .schedule) .whole) ∙ sym (unless-done _ _ _ (w .checked)),
+      q ∙ ap₂ (λ (g : Given) (n : ℕ). bytes2 (runEntries g Stay n)) (w .says) (accepted _ _ _ (w .schedule) .whole) ∙ sym (unless-done _ _ _ (w .checked)),
     )
 
     pub c-claims : (x : ℕ) → x ≡ packedClaim (claim (given (r .mode) (take (length tasks / 4) (r .tasks)) (take (length jobs / 4) (r .jobs))) (numbers2 schedule))
@@ -169,12 +170,12 @@ module _ (mode : ℕ) (tasks jobs : List ℕ) (horizon : ℕ) (schedule : List �
 
   pub c-run-zero : runResult mode tasks jobs horizon schedule ≡ 0
       → (checkSchedule (givenBytes mode tasks jobs .lists) horizon (length (numbers2 schedule)) ≡ Done)
-      × (runBytes mode tasks jobs horizon schedule ≡ bytes2 (runSchedule (givenBytes mode tasks jobs) horizon (numbers2 schedule)))
+      × (runBytes mode tasks jobs horizon schedule ≡ bytes2 (runSchedule (givenBytes mode tasks jobs) Stay horizon (numbers2 schedule)))
   unfolding runBytes
   c-run-zero e =
       let w = run-passed e in
       let fine : checkSchedule (givenBytes mode tasks jobs .lists) horizon (length (numbers2 schedule)) ≡ Done = rw length-numbers2 (w .schedule) in
-      (fine, unless-done _ _ _ (w .checked) ∙ ap bytes2 (sym (run-given (givenBytes mode tasks jobs) horizon (numbers2 schedule) fine .1)))
+      (fine, unless-done _ _ _ (w .checked) ∙ ap bytes2 (sym (run-given (givenBytes mode tasks jobs) Stay horizon (numbers2 schedule) fine .1)))
 
   -- where a run is refused its bytes stay
   pub c-run-kept : (runResult mode tasks jobs horizon schedule ≡ 0 → ⊥) → runBytes mode tasks jobs horizon schedule ≡ schedule
@@ -187,15 +188,15 @@ module _ (mode : ℕ) (tasks jobs : List ℕ) (horizon : ℕ) (schedule : List �
   c-run-claim e =
       let w = run-passed e in
       let g = givenBytes mode tasks jobs in
-      let es = runEntries g horizon in
+      let es = runEntries g Stay horizon in
       let a = accepted (g .lists) horizon (length schedule / 2) (w .schedule) in
-      let count : length (bytes2 es) ≡ length schedule = omega (arith, length-bytes2 es, length-run g horizon, w .even, a .whole) in
+      let count : length (bytes2 es) ≡ length schedule = omega (arith, length-bytes2 es, length-run g Stay horizon, w .even, a .whole) in
       rw (
         unless-done (λ number place. schedule) (bytes2 es) _ (w .checked),
         count,
         unless-done claims.Refused (claim g (numbers2 (bytes2 es))) _ (w .checked),
         entries-back es,
-        whole-legal g es .1 (our-run-legal g (lists-few (g .lists) (a .lists)) horizon (a .bounded)),
+        whole-legal g es .1 (our-run-legal g (lists-few (g .lists) (a .lists)) Stay horizon (a .bounded)),
       )
 
   -- the results exactly: refused, done, legal, not legal

@@ -13,7 +13,7 @@ use borrow.Author.Tests.{eq-eqb, eqb-true, ltb-true, not-true}
 use Rattle.bits.specs.Below.{bit, greatest, some, word}
 use Rattle.bits.proofs.Below.{some-found}
 use Rattle.bits.proofs.Bools.{and-left, and-true, clash, either, fails, not-of, or-left-false, or-right, or-right-false, same-test}
-use Rattle.bits.proofs.Word.{bit-above, bit-word, highest-word, word-none}
+use Rattle.bits.proofs.Word.{bit-above, bit-word, word-none}
 use Rattle.tables.specs.declared.outcome.Outcome.the-variants.{Done}
 use Rattle.zsrm.specs.declared.answers.Claim.the-variants.{Legal, NotLegal}
 use Rattle.zsrm.specs.declared.claims.Replayed.{Replayed}
@@ -30,9 +30,9 @@ use Rattle.zsrm.specs.Tick.{advanced, candidate, eligible, readyAt, read
 use Rattle.zsrm.specs.Code.View.{hasPriority, view}
 use Rattle.zsrm.proofs.Laws.Consistent.{advanced-consistent, fresh-consistent}
 use Rattle.zsrm.proofs.Laws.Places.{tick-advanced, tick-fresh}
-use Rattle.zsrm.proofs.Laws.Ready.{candidate-top, ready-of}
+use Rattle.zsrm.proofs.Laws.Ready.{ready-of}
 use Rattle.zsrm.proofs.Laws.Tick.{candidate-eligible, some-candidate}
-use Rattle.zsrm.proofs.Laws.View.{jobWord-bit, seen}
+use Rattle.zsrm.proofs.Laws.View.{candidate-view, seen}
 use Rattle.zsrm.proofs.Laws.Replay.{legal-goes-on, legal-may, legal-stops}
 use Rattle.tables.proofs.Laws.Accepted.{bounded, lists-few}
 
@@ -82,12 +82,7 @@ module _ (g : Given) (r : Record) (few : jobCount (g .lists .jobs) ≤ 64) (fit 
           → (ltb e (jobCount (g .lists .jobs)) && (bit (view (g .lists) r .eligible) e && eqb (jobPriority (g .lists) e) (greatest 64 (bit (view (g .lists) r .ready)) 64)))
           ≡ (ltb e (jobCount (g .lists .jobs)) && candidate g r e)
       named (inl l) =
-          let b = ltb-true e (jobCount (g .lists .jobs)) l in
-          ap (λ (x : Bool). ltb e (jobCount (g .lists .jobs)) && x)
-          (ap₂ (λ (x : Bool) (p : ℕ). x && eqb (jobPriority (g .lists) e) p)
-          (ap (λ (w : ℕ). bit w e) (seen g r few .eligible) ∙ jobWord-bit (g .lists .jobs) (eligible g r) e few b)
-          (ap (λ (w : ℕ). greatest 64 (bit w) 64) (seen g r few .ready) ∙ highest-word (readyAt g r) 64 64)
-          ∙ sym (candidate-top g r fit e b))
+          ap (λ (x : Bool). ltb e (jobCount (g .lists .jobs)) && x) (candidate-view g r few fit e (ltb-true e (jobCount (g .lists .jobs)) l))
       named (inr l) = rw l
 
 -- on accepted lists, by the view that the code has

@@ -1,8 +1,9 @@
 -- What consistency says, place by place: the one statement of it. The fresh record is consistent, and a legal entry keeps a record so.
 use Prim.Native.Nat.{_+_, _<_, suc, ℕ, _≤_}
 use mathlib.Core.Bool.{false, true}
+use mathlib.Core.List.{List}
 use mathlib.Core.Path.{ap, refl, _∙_, _≡_}
-use mathlib.Core.Logic.{Iff·trans, _↔_, _≢_, ⊎-elim}
+use mathlib.Core.Logic.{Iff·trans, inl, inr, _↔_, _≢_, _⊎_, ⊎-elim}
 use native.Mathlib.Decide.{ℕ-discrete}
 use native.Mathlib.Omega.{arith}
 use Rattle.bits.proofs.Bools.{clash, passed, passes, and-true, not-of}
@@ -11,13 +12,13 @@ use Rattle.zsrm.specs.declared.record.Record.{Record}
 use Rattle.zsrm.specs.declared.record.Standing.{Standing}
 use Rattle.zsrm.specs.declared.record.Standing.the-variants.{Ended, Finished, NotArrived, Unfinished}
 use Rattle.zsrm.specs.Legal.{candidateOrIdle}
-use Rattle.zsrm.specs.Record.{accounted, arrived, consistent, doneAt, fresh, freshPlace, opening, placeAt, soundAt, soundPlace, spent, standingAt, suspendedAt, waitedAt}
+use Rattle.zsrm.specs.Record.{accounted, arrived, consistent, doneAt, fresh, freshPlace, opening, placeAt, soundAt, soundPlace, soundPrevious, spent, standingAt, suspendedAt, waitedAt}
 use Rattle.zsrm.specs.Given.{isSE, Given}
-use Rattle.tables.specs.Tables.{arrival, execution, jobCount}
+use Rattle.tables.specs.Tables.{arrival, execution, idle, jobCount}
 use Rattle.zsrm.specs.Tick.{advanced, alive, doneAfter, finishes, placeAfter, standingAfter, unfinished}
-use Rattle.zsrm.proofs.Laws.Places.{done-advanced, done-fresh, place-advanced, place-fresh, standing-advanced, standing-fresh, tick-advanced, tick-fresh, away-reads, opens}
-use Rattle.bits.proofs.Readings.{and-reads, eq-reads, every-reads, le-reads}
-use Rattle.zsrm.proofs.Laws.Tick.{done-dead, done-idle, done-most, ends-by, goes-on, none-raised, one-raised, se-reads, finishing, is-SE}
+use Rattle.zsrm.proofs.Laws.Places.{done-advanced, done-fresh, place-advanced, place-fresh, previous-advanced, previous-fresh, standing-advanced, standing-fresh, tick-advanced, tick-fresh, away-reads, opens}
+use Rattle.bits.proofs.Readings.{and-reads, eq-reads, every-reads, le-reads, lt-reads, or-reads}
+use Rattle.zsrm.proofs.Laws.Tick.{done-dead, done-idle, done-most, ends-by, goes-on, none-raised, one-raised, runs-or-idle, se-reads, finishing, is-SE}
 use Rattle.zsrm.specs.declared.mode.Mode.the-variants.{SE}
 
 -- "It is consistent when", of the place j at tick t, by its standing
@@ -94,18 +95,27 @@ accounted-reads a t p Unfinished = eq-reads _ _
 accounted-reads a t p (Finished f) = eq-reads _ _
 accounted-reads a t p (Ended e) = eq-reads _ _
 
+-- "The record keeps the previous entry, which must be idle at tick 0, later idle or a job in the list."
+abbrev pub Previous : List ℕ → ℕ → ℕ → Type 0
+Previous jobs t e = (e ≡ idle) ⊎ ((0 < t) × (e < jobCount jobs))
+
+previous-reads : (jobs : List ℕ) (t e : ℕ) → soundPrevious jobs t e ≡ true ↔ Previous jobs t e
+unfolding soundPrevious
+previous-reads jobs t e = or-reads (eq-reads _ _) (and-reads (lt-reads _ _) (lt-reads _ _))
+
 -- and: "t ≤ 16,384"
 pub record Consistent (g : Given) (r : Record) : Type 0 where
   pub tick-most : r .tick ≤ 16384
+  pub previous : Previous (g .lists .jobs) (r .tick) (r .previous)
   pub places : (j : ℕ) → j < 64 → Sound g (r .tick) j (doneAt r j) (standingAt r j)
   pub accounts : (j : ℕ) → j < 64 → Accounted (arrival (g .lists .jobs) j) (r .tick) (placeAt r j) (standingAt r j)
 
 pub consistency : (g : Given) (r : Record) → consistent g r ≡ true ↔ Consistent g r
 unfolding consistent soundAt
 consistency g r =
-    Iff·trans (and-reads (le-reads _ _) (every-reads 64 (λ j.
+    Iff·trans (and-reads (and-reads (le-reads _ _) (previous-reads (g .lists .jobs) (r .tick) (r .previous))) (every-reads 64 (λ j.
     and-reads (sound-reads g (r .tick) j (doneAt r j) (standingAt r j)) (accounted-reads (arrival (g .lists .jobs) j) (r .tick) (placeAt r j) (standingAt r j)))))
-    (λ w. record { tick-most = w .0; places = λ j l. w .1 j l .0; accounts = λ j l. w .1 j l .1 }, λ w. (w .tick-most, λ j l. (w .places j l, w .accounts j l)))
+    (λ w. record { tick-most = w .0 .0; previous = w .0 .1; places = λ j l. w .1 j l .0; accounts = λ j l. w .1 j l .1 }, λ w. ((w .tick-most, w .previous), λ j l. (w .places j l, w .accounts j l)))
 
 -- a place where nothing has run is sound with nothing done
 opening-sound : (g : Given) (t j done : ℕ) → done ≡ 0 → Sound g t j done (opening (g .lists .jobs) t j)
@@ -127,6 +137,7 @@ fresh-consistent g =
     consistency g (fresh (g .lists .jobs)) .1
     (record {
       tick-most = rw tick-fresh (omega arith);
+      previous = inl (previous-fresh (g .lists .jobs));
       places = λ j l. rw (done-fresh, standing-fresh, tick-fresh) (opening-sound g 0 j 0 refl);
       accounts = λ j l. rw (standing-fresh, place-fresh, tick-fresh) (opening-accounted g 0 j (freshPlace (g .lists .jobs) j) (λ _. omega arith) refl refl refl);
     })
@@ -194,6 +205,9 @@ advanced-consistent g r e b may ok =
     consistency g (advanced g r e) .1
     (record {
       tick-most = rw tick-advanced (omega arith);
+      previous =
+          ⊎-elim (λ c. inr (rw tick-advanced (omega arith), rw previous-advanced (c .0))) (λ c. inl (previous-advanced g r e ∙ c .0))
+          (runs-or-idle g r e may);
       places = λ j l.
           rw (done-advanced, standing-advanced, tick-advanced)
           (keeps-place g r e may j l (standingAt r j) refl (consistency g r .0 ok .places j l));

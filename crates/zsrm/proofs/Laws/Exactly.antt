@@ -9,6 +9,7 @@ use Rattle.zsrm.specs.declared.answers.Stepped.{Stepped}
 use Rattle.tables.specs.declared.outcome.Outcome.{Outcome}
 use Rattle.tables.specs.declared.outcome.Outcome.the-variants.{Done, Refused}
 use Rattle.zsrm.specs.declared.record.Record.{Record}
+use Rattle.zsrm.specs.declared.tie.Tie.{Tie}
 use Rattle.zsrm.specs.declared.record.Standing.{Standing}
 use Rattle.zsrm.specs.declared.answers.Verdict.{Verdict}
 use mathlib.Core.Bool.{Bool, true, false, cond}
@@ -116,26 +117,26 @@ response-refused g horizon schedule j number place e =
     unless-refused _ _ (checkWitness (g .lists) horizon (length schedule) j) number place (outcome-said (checkWitness (g .lists) horizon (length schedule) j) (Refused number place) e)
 
 -- a step is the tick of the rules, or refused by its checks
-module _ (g : Given) (r : Record) where
-  pub step-checked : stepAnswer g r .outcome ≡ checkStep g r
+module _ (g : Given) (tie : Tie) (r : Record) where
+  pub step-checked : stepAnswer g tie r .outcome ≡ checkStep g r
   unfolding stepAnswer unless refusedStep stepped
   step-checked = go (checkStep g r)
     where
-      go : (o : Outcome) → unless o refusedStep (stepped g r) .outcome ≡ o
+      go : (o : Outcome) → unless o refusedStep (stepped g tie r) .outcome ≡ o
       go Done = refl
       go (Refused n p) = refl
 
-  pub step-refused : (number place : ℕ) → outcomeSaid (stepAnswer g r .outcome) ≡ outcome.refused number place → stepAnswer g r ≡ refusedStep number place
+  pub step-refused : (number place : ℕ) → outcomeSaid (stepAnswer g tie r .outcome) ≡ outcome.refused number place → stepAnswer g tie r ≡ refusedStep number place
   unfolding outcomeSaid stepAnswer
   step-refused number place e =
-      unless-refused _ _ (checkStep g r) number place (sym step-checked ∙ outcome-said (stepAnswer g r .outcome) (Refused number place) e)
+      unless-refused _ _ (checkStep g r) number place (sym step-checked ∙ outcome-said (stepAnswer g tie r .outcome) (Refused number place) e)
 
-  pub step-done : outcomeSaid (stepAnswer g r .outcome) ≡ outcome.done → stepAnswer g r ≡ stepped g r
+  pub step-done : outcomeSaid (stepAnswer g tie r .outcome) ≡ outcome.done → stepAnswer g tie r ≡ stepped g tie r
   unfolding outcomeSaid stepAnswer unless
-  step-done e = rw (sym step-checked ∙ outcome-said (stepAnswer g r .outcome) Done e)
+  step-done e = rw (sym step-checked ∙ outcome-said (stepAnswer g tie r .outcome) Done e)
 
-  pub step-blank : (number place : ℕ) → outcomeSaid (stepAnswer g r .outcome) ≡ outcome.refused number place
-      → (stepAnswer g r .«record» ≡ blank) × (stepAnswer g r ≡ refusedStep number place)
+  pub step-blank : (number place : ℕ) → outcomeSaid (stepAnswer g tie r .outcome) ≡ outcome.refused number place
+      → (stepAnswer g tie r .«record» ≡ blank) × (stepAnswer g tie r ≡ refusedStep number place)
   unfolding refusedStep
   step-blank number place e = let q = step-refused number place e in (ap (λ (s : Stepped). s .«record») q, q)
 

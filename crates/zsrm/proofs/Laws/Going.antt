@@ -9,6 +9,7 @@ use lib.ListN.{length, set, take}
 use lib.Seq.{take-suc-set}
 use Rattle.zsrm.specs.declared.answers.Stepped.{Stepped}
 use Rattle.zsrm.specs.declared.record.Record.{Record}
+use Rattle.zsrm.specs.declared.tie.Tie.{Tie}
 use Rattle.zsrm.specs.Answers.{stepped}
 use Rattle.zsrm.specs.Record.{consistent}
 use Rattle.zsrm.specs.Run.{entriesBy, replay, finalBy}
@@ -64,6 +65,6 @@ module _ (g : Given) (pick : Record → ℕ) where
       rw add-one (take-suc-set l n e b) ∙ ap₂ (λ (x : List ℕ) (c : ℕ). x ++ (c ∷ [])) p (q ∙ ap pick (w .is)) ∙ sym (entries-more start n)
 
 -- a step's entry and record
-pub steps-entry : (g : Given) (r : Record) (s : Stepped) → s ≡ stepped g r → (s .entry ≡ choice g r) × (s .«record» ≡ advanced g r (choice g r))
+pub steps-entry : (g : Given) (tie : Tie) (r : Record) (s : Stepped) → s ≡ stepped g tie r → (s .entry ≡ choice g tie r) × (s .«record» ≡ advanced g r (choice g tie r))
 unfolding stepped
-steps-entry g r s q = (ap (λ (x : Stepped). x .entry) q, ap (λ (x : Stepped). x .«record») q)
+steps-entry g tie r s q = (ap (λ (x : Stepped). x .entry) q, ap (λ (x : Stepped). x .«record») q)

@@ -24,16 +24,18 @@ use Rattle.zsrm.specs.Code.Next.{nextAt, nextPlace, nextRecord, nextStan
 use Rattle.zsrm.specs.Code.View.{tickedBy, view}
 use Rattle.zsrm.specs.Record.{arrived, arriving, blank, consistent, doneAt, empty, fresh, freshPlace, opening, placeAt, spent, standingAt, suspendedAt, waitedAt}
 use Rattle.zsrm.specs.Given.{Given}
-use Rattle.tables.specs.Tables.{arrival, execution, jobCount}
+use Rattle.tables.specs.Tables.{arrival, execution, idle, jobCount}
 use Rattle.zsrm.specs.Tick.{advanced, alive, doneAfter, endedWord, ends, finishes, goesOn, placeAfter, standingAfter, suspended, suspendedAfter, unfinished, waitedAfter, waits}
 use Rattle.zsrm.proofs.Laws.Consistent.{beyond-waits, spent-tick}
 use Rattle.zsrm.proofs.Laws.View.{jobWord-bit, ticked, ticked-made}
 use Rattle.zsrm.proofs.Laws.Tick.{none-raised}
 use Rattle.bits.proofs.Bools.{by-cond}
 
--- a record is its tick and its places
-pub same-record : (r s : Record) → r .tick ≡ s .tick → r .places ≡ s .places → r ≡ s
-same-record r s t p = ap₂ (λ (t : ℕ) (l : List Place). let x : Record = record { tick = t; places = l } in x) t p
+-- a record is its tick, its previous entry and its places
+pub same-record : (r s : Record) → r .tick ≡ s .tick → r .previous ≡ s .previous → r .places ≡ s .places → r ≡ s
+same-record r s t e p =
+    ap₂ (λ (t e : ℕ). let x : Record = record { tick = t; previous = e; places = r .places } in x) t e
+    ∙ ap (λ (l : List Place). let x : Record = record { tick = s .tick; previous = s .previous; places = l } in x) p
 
 -- a place is its three numbers and its standing
 pub same-place : (p q : Place) → p .done ≡ q .done → p .suspended ≡ q .suspended → p .waited ≡ q .waited → p .standing ≡ q .standing → p ≡ q
@@ -41,15 +43,15 @@ same-place p q d s w t =
     ap₂ (λ (d s : ℕ). let x : Place = record { done = d; suspended = s; waited = p .waited; standing = p .standing } in x) d s
     ∙ ap₂ (λ (w : ℕ) (t : Standing). let x : Place = record { done = q .done; suspended = q .suspended; waited = w; standing = t } in x) w t
 
-pub fresh-begun : (jobs : List ℕ) (out : Record) → out ≡ blank → (out .tick ≡ 0) × Written empty (freshPlace jobs) (blank .places) (out .places) 64 0
+pub fresh-begun : (jobs : List ℕ) (out : Record) → out ≡ blank → (out .tick ≡ 0) × (out .previous ≡ idle) × Written empty (freshPlace jobs) (blank .places) (out .places) 64 0
 unfolding blank
 fresh-begun jobs out e =
-    (ap (λ (r : Record). r .tick) e, rw e (written-none empty (freshPlace jobs) (replicate 64 empty) 64 (length-replicate 64 empty)))
+    (ap (λ (r : Record). r .tick) e, ap (λ (r : Record). r .previous) e, rw e (written-none empty (freshPlace jobs) (replicate 64 empty) 64 (length-replicate 64 empty)))
 
-pub fresh-made : (jobs : List ℕ) (out : Record) (j : ℕ) → out .tick ≡ 0 → Written empty (freshPlace jobs) (blank .places) (out .places) 64 j → 64 ≤ j → out ≡ fresh jobs
+pub fresh-made : (jobs : List ℕ) (out : Record) (j : ℕ) → out .tick ≡ 0 → out .previous ≡ idle → Written empty (freshPlace jobs) (blank .places) (out .places) 64 j → 64 ≤ j → out ≡ fresh jobs
 unfolding fresh
-fresh-made jobs out j t w m =
-    same-record out (record { tick = 0; places = listFrom 0 64 (freshPlace jobs) }) t
+fresh-made jobs out j t e w m =
+    same-record out (record { tick = 0; previous = idle; places = listFrom 0 64 (freshPlace jobs) }) t e
     (written-all empty (freshPlace jobs) (blank .places) (out .places) 64 j w (λ k a b. absurd (omega arith)))
 
 -- the places as the loop has made them so far: those of the jobs below j are the next ones
@@ -68,10 +70,11 @@ unfolding nextAt
 next-at jobs r d j p v x l qp qx qv =
     qv ∙ ap₂ (λ (y : Job) (q : Place). nextPlace (r .tick) d j (y .arrival) (y .execution) q) qx qp ∙ rw (lt-ltb j (jobCount jobs) l)
 
-pub next-made : (jobs : List ℕ) (r : Record) (d : Ticked) (out : Record) (j : ℕ) → Made jobs r d out j → jobCount jobs ≤ j → out ≡ nextRecord jobs r d
+pub next-made : (jobs : List ℕ) (r : Record) (d : Ticked) (out : Record) (j : ℕ) → Made jobs r d out j → jobCount jobs ≤ j
+    → _≡_ {A = Record} (record { tick = out .tick; previous = d .entry; places = out .places }) (nextRecord jobs r d)
 unfolding nextRecord nextAt placeAt
 next-made jobs r d out j w m =
-    same-record out (record { tick = r .tick + 1; places = listFrom 0 64 (nextAt jobs r d) }) (w .0)
+    same-record (record { tick = out .tick; previous = d .entry; places = out .places }) (record { tick = r .tick + 1; previous = d .entry; places = listFrom 0 64 (nextAt jobs r d) }) (w .0) refl
     (written-all empty (nextAt jobs r d) (r .places) (out .places) 64 j (w .1) (λ k a b. rw (le-ltb k (jobCount jobs) (omega arith))))
 
 -- the record after a tick whose entry may run is the one that document 01 advances to
@@ -106,7 +109,7 @@ module _ (g : Given) (r : Record) (e : ℕ) (few : jobCount (g .lists .jobs) ≤
   next-advanced : nextRecord (g .lists .jobs) r (ticked g r e) ≡ advanced g r e
   unfolding nextRecord nextAt advanced
   next-advanced =
-      same-record _ (record { tick = suc (r .tick); places = listFrom 0 64 (placeAfter g r e) }) (add-one (r .tick))
+      same-record _ (record { tick = suc (r .tick); previous = e; places = listFrom 0 64 (placeAfter g r e) }) (add-one (r .tick)) refl
       (list-same 64 (nextAt (g .lists .jobs) r (ticked g r e)) (placeAfter g r e) (λ j l.
       by-cond (λ p. p ≡ placeAfter g r e j) (ltb j (jobCount (g .lists .jobs))) _ _ (λ q. job-next j (ltb-true _ _ q)) (λ q. beyond-next j (ltb-false _ _ q) l)))
 

@@ -16,13 +16,17 @@ use Rattle.zsrm.specs.Given.{Given}
 use Rattle.zsrm.specs.Tick.{advanced, doneAfter, placeAfter, standingAfter, suspendedAfter, waitedAfter, alive, goesOn, unfinished}
 use Rattle.bits.proofs.Bools.{and-false, by-cond, clash, fails}
 use Rattle.bits.proofs.Readings.{and-reads, le-reads, lt-reads}
-use Rattle.tables.specs.Tables.{arrival, execution, jobCount}
+use Rattle.tables.specs.Tables.{arrival, execution, idle, jobCount}
 use Rattle.zsrm.specs.declared.record.Standing.{Standing}
 use Rattle.zsrm.specs.declared.record.Standing.the-variants.{Ended, Finished, NotArrived, Unfinished}
 
 pub tick-fresh : (jobs : List ℕ) → fresh jobs .tick ≡ 0
 unfolding fresh
 tick-fresh jobs = refl
+
+pub previous-fresh : (jobs : List ℕ) → fresh jobs .previous ≡ idle
+unfolding fresh
+previous-fresh jobs = refl
 
 pub place-fresh : (jobs : List ℕ) (j : ℕ) → j < 64 → placeAt (fresh jobs) j ≡ freshPlace jobs j
 unfolding placeAt fresh
@@ -54,6 +58,10 @@ module _ (g : Given) (r : Record) (e : ℕ) where
   pub tick-advanced : advanced g r e .tick ≡ suc (r .tick)
   unfolding advanced
   tick-advanced = refl
+
+  pub previous-advanced : advanced g r e .previous ≡ e
+  unfolding advanced
+  previous-advanced = refl
 
   pub place-advanced : (j : ℕ) → j < 64 → placeAt (advanced g r e) j ≡ placeAfter g r e j
   unfolding placeAt advanced

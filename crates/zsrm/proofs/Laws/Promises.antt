@@ -15,6 +15,8 @@ use Rattle.zsrm.specs.declared.answers.Stepped.{Stepped}
 use Rattle.zsrm.specs.declared.answers.Verdict.{Verdict}
 use Rattle.zsrm.specs.declared.answers.Witness.{Witness}
 use Rattle.zsrm.specs.declared.record.Record.{Record}
+use Rattle.zsrm.specs.declared.tie.Tie.{Tie}
+use Rattle.zsrm.specs.declared.tie.Tie.the-variants.{Stay}
 use Rattle.zsrm.specs.declared.record.Standing.the-variants.{Finished}
 use Rattle.zsrm.specs.Answers.{checkSchedule, checkStep, checkWitness, claimAnswer, freshAnswer, ran, responseAnswer, runAnswer, runSchedule, stepAnswer, stepped, stepsFrom, verdictAnswer, witnessAnswer}
 use Rattle.tables.specs.Refusals.{unless, ascending, before, check13, check2, check3, check4, checkLists, checkTasks, outside, refuse}
@@ -26,7 +28,7 @@ use Rattle.zsrm.specs.Record.{blank, consistent, doneAt, fresh, standing
 use Rattle.zsrm.specs.Run.{entriesBy, replay, replayed, runEntries, runRecord, finalBy}
 use Rattle.zsrm.specs.Given.{Given}
 use Rattle.tables.specs.Tables.{arrival, criticality, deadline, execution, idle, jobCount, nominal, overload, period, priority, taskCount, offset}
-use Rattle.zsrm.specs.Tick.{advanced, choice}
+use Rattle.zsrm.specs.Tick.{advanced, candidate, choice}
 use Rattle.zsrm.specs.Topmost.{Topmost}
 use Rattle.zsrm.specs.Verdict.{Part, missed, part, verdict, witness}
 use Rattle.zsrm.proofs.Laws.Answers.{accepted, is-legal, run-given, verdict-answered, whole-legal}
@@ -38,7 +40,7 @@ use Rattle.tables.proofs.Laws.Refusals.{before-first, unless-done, unless-refus
 use Rattle.zsrm.proofs.Laws.Said.{verdict-said, witness-said}
 use Rattle.zsrm.proofs.Laws.Verdicts.{part-fits, replayed-consistent, witnessed}
 use Rattle.zsrm.proofs.Readings.{FirstOutside, Within, witness-reads}
-use Rattle.zsrm.proofs.Laws.Run.{choice-may}
+use Rattle.zsrm.proofs.Laws.Choice.{choice-kept, choice-may}
 use Rattle.tables.proofs.Laws.Accepted.{lists-few}
 use Rattle.tables.proofs.Laws.Said.{outcome-said}
 use Rattle.zsrm.specs.Said as say
@@ -48,21 +50,26 @@ use Rattle.zsrm.specs.declared.answers.Verdict.the-variants as verdicts
 use Rattle.zsrm.specs.declared.answers.Witness.the-variants as witnesses
 
 -- a step that meets its checks is taken
-step-taken : (g : Given) (r : Record) → checkLists (g .lists) ≡ Done → consistent g r ≡ true → r .tick < 16384 → stepAnswer g r ≡ stepped g r
+step-taken : (g : Given) (tie : Tie) (r : Record) → checkLists (g .lists) ≡ Done → consistent g r ≡ true → r .tick < 16384 → stepAnswer g tie r ≡ stepped g tie r
 unfolding stepAnswer checkStep check11 check12 refuse before unless
-step-taken g r ok sound time = rw (ok, sound, ne-eqb (r .tick) 16384 (λ e. omega arith))
+step-taken g tie r ok sound time = rw (ok, sound, ne-eqb (r .tick) 16384 (λ e. omega arith))
+
+-- under Stay it keeps the previous entry where that is a candidate
+pub step-stays : (g : Given) (r : Record) → stepAnswer g Stay r ≡ stepped g Stay r → r .previous < jobCount (g .lists .jobs) → candidate g r (r .previous) ≡ true
+    → stepAnswer g Stay r .entry ≡ r .previous
+step-stays g r is l c = steps-entry g Stay r (stepAnswer g Stay r) is .0 ∙ choice-kept g r l c
 
 -- so is each of a run's
-module _ (g : Given) (ok : checkLists (g .lists) ≡ Done) where
-  going : (n : ℕ) → n ≤ 16384 → Going g (choice g) (fresh (g .lists .jobs)) (stepsFrom g (fresh (g .lists .jobs)) n) n
+module _ (g : Given) (ok : checkLists (g .lists) ≡ Done) (tie : Tie) where
+  going : (n : ℕ) → n ≤ 16384 → Going g (choice g tie) (fresh (g .lists .jobs)) (stepsFrom g tie (fresh (g .lists .jobs)) n) n
   unfolding stepsFrom
-  going zero b = going-none g (choice g) (fresh (g .lists .jobs)) (fresh-consistent g)
+  going zero b = going-none g (choice g tie) (fresh (g .lists .jobs)) (fresh-consistent g)
   going (suc n) b =
       let w = going n (omega arith) in
       let t = tick-fresh (g .lists .jobs) in
-      let r = stepsFrom g (fresh (g .lists .jobs)) n in
-      let s = steps-entry g r (stepAnswer g r) (step-taken g r ok (w .sound) (omega (arith, w .time))) in
-      rw add-one at (going-more g (choice g) (fresh (g .lists .jobs)) r (stepAnswer g r .«record») n w (omega arith) (choice-may g r) (s .1))
+      let r = stepsFrom g tie (fresh (g .lists .jobs)) n in
+      let s = steps-entry g tie r (stepAnswer g tie r) (step-taken g tie r ok (w .sound) (omega (arith, w .time))) in
+      rw add-one at (going-more g (choice g tie) (fresh (g .lists .jobs)) r (stepAnswer g tie r .«record») n w (omega arith) (choice-may g tie r) (s .1))
 
 -- the entry that a run takes in tick t
 getD-entries : (g : Given) (pick : Record → ℕ) (r : Record) (n t : ℕ) → t < n → getD (entriesBy g pick r n) t idle ≡ pick (finalBy g pick r t)
@@ -72,56 +79,56 @@ getD-entries g pick r (suc n) zero l = refl
 getD-entries g pick r (suc n) (suc t) l = getD-entries g pick (advanced g r (pick r)) n t (omega arith)
 
 -- our run, where nothing is refused
-pub run-checked : (g : Given) (horizon : ℕ) (lent : List ℕ) → outcomeSaid (runAnswer g horizon lent .outcome) ≡ outcome.done → checkSchedule (g .lists) horizon (length lent) ≡ Done
+pub run-checked : (g : Given) (tie : Tie) (horizon : ℕ) (lent : List ℕ) → outcomeSaid (runAnswer g tie horizon lent .outcome) ≡ outcome.done → checkSchedule (g .lists) horizon (length lent) ≡ Done
 unfolding runAnswer ran outcomeSaid
-run-checked g horizon lent done = outcome-said (checkSchedule (g .lists) horizon (length lent)) Done done
+run-checked g tie horizon lent done = outcome-said (checkSchedule (g .lists) horizon (length lent)) Done done
 
-pub run-refused-keeps : (g : Given) (horizon : ℕ) (lent : List ℕ) (number place : ℕ) → outcomeSaid (runAnswer g horizon lent .outcome) ≡ outcome.refused number place
-    → (runSchedule g horizon lent ≡ lent) × (runAnswer g horizon lent .«record» ≡ blank)
+pub run-refused-keeps : (g : Given) (tie : Tie) (horizon : ℕ) (lent : List ℕ) (number place : ℕ) → outcomeSaid (runAnswer g tie horizon lent .outcome) ≡ outcome.refused number place
+    → (runSchedule g tie horizon lent ≡ lent) × (runAnswer g tie horizon lent .«record» ≡ blank)
 unfolding runAnswer runSchedule ran outcomeSaid
-run-refused-keeps g horizon lent number place says =
+run-refused-keeps g tie horizon lent number place says =
     let e = outcome-said (checkSchedule (g .lists) horizon (length lent)) (Refused number place) says in
     (unless-refused _ _ _ number place e, unless-refused _ _ _ number place e)
 
-module _ (g : Given) (horizon : ℕ) (lent : List ℕ) (ok : checkSchedule (g .lists) horizon (length lent) ≡ Done) where
+module _ (g : Given) (tie : Tie) (horizon : ℕ) (lent : List ℕ) (ok : checkSchedule (g .lists) horizon (length lent) ≡ Done) where
   fresh-record : freshAnswer (g .lists .tasks) (g .lists .jobs) .«record» ≡ fresh (g .lists .jobs)
   unfolding freshAnswer ran
   fresh-record = unless-done _ _ (checkLists (g .lists)) (accepted (g .lists) horizon (length lent) ok .lists)
 
-  pub ran-replayed : runAnswer g horizon lent .«record» ≡ replayed g (runSchedule g horizon lent)
+  pub ran-replayed : runAnswer g tie horizon lent .«record» ≡ replayed g (runSchedule g tie horizon lent)
   unfolding replayed finalBy runRecord runEntries
-  ran-replayed = let w = run-given g horizon lent ok in w .0 ∙ ap (replay g (fresh (g .lists .jobs))) (sym (w .1))
+  ran-replayed = let w = run-given g tie horizon lent ok in w .0 ∙ ap (replay g (fresh (g .lists .jobs))) (sym (w .1))
 
-  pub ran-consistent : consistent g (runAnswer g horizon lent .«record») ≡ true
+  pub ran-consistent : consistent g (runAnswer g tie horizon lent .«record») ≡ true
   unfolding runRecord
   ran-consistent =
       let a = accepted (g .lists) horizon (length lent) ok in
-      let w = going g (a .lists) horizon (a .bounded) in
-      ap (consistent g) (run-given g horizon lent ok .0 ∙ sym (w .is)) ∙ w .sound
+      let w = going g (a .lists) tie horizon (a .bounded) in
+      ap (consistent g) (run-given g tie horizon lent ok .0 ∙ sym (w .is)) ∙ w .sound
 
-  pub ran-steps : runAnswer g horizon lent .«record» ≡ stepsFrom g (freshAnswer (g .lists .tasks) (g .lists .jobs) .«record») horizon
+  pub ran-steps : runAnswer g tie horizon lent .«record» ≡ stepsFrom g tie (freshAnswer (g .lists .tasks) (g .lists .jobs) .«record») horizon
   unfolding runRecord
   ran-steps =
       let a = accepted (g .lists) horizon (length lent) ok in
-      rw fresh-record (run-given g horizon lent ok .0 ∙ sym (going g (a .lists) horizon (a .bounded) .is))
+      rw fresh-record (run-given g tie horizon lent ok .0 ∙ sym (going g (a .lists) tie horizon (a .bounded) .is))
 
   pub ran-step : (t : ℕ) → t < horizon
-      → stepAnswer g (stepsFrom g (freshAnswer (g .lists .tasks) (g .lists .jobs) .«record») t) ≡ stepped g (finalBy g (choice g) (fresh (g .lists .jobs)) t)
+      → stepAnswer g tie (stepsFrom g tie (freshAnswer (g .lists .tasks) (g .lists .jobs) .«record») t) ≡ stepped g tie (finalBy g (choice g tie) (fresh (g .lists .jobs)) t)
   ran-step t l =
       let a = accepted (g .lists) horizon (length lent) ok in
-      let w = going g (a .lists) t (omega arith) in
+      let w = going g (a .lists) tie t (omega arith) in
       let z = tick-fresh (g .lists .jobs) in
-      rw fresh-record (step-taken g _ (a .lists) (w .sound) (omega (arith, w .time)) ∙ ap (stepped g) (w .is))
+      rw fresh-record (step-taken g tie _ (a .lists) (w .sound) (omega (arith, w .time)) ∙ ap (stepped g tie) (w .is))
 
-  pub ran-step-done : (t : ℕ) → t < horizon → outcomeSaid (stepAnswer g (stepsFrom g (freshAnswer (g .lists .tasks) (g .lists .jobs) .«record») t) .outcome) ≡ outcome.done
+  pub ran-step-done : (t : ℕ) → t < horizon → outcomeSaid (stepAnswer g tie (stepsFrom g tie (freshAnswer (g .lists .tasks) (g .lists .jobs) .«record») t) .outcome) ≡ outcome.done
   unfolding stepped outcomeSaid
   ran-step-done t l = ap (λ (s : Stepped). outcomeSaid (s .outcome)) (ran-step t l)
 
   pub ran-entry : (t : ℕ) → t < horizon
-      → getD (runSchedule g horizon lent) t idle ≡ stepAnswer g (stepsFrom g (freshAnswer (g .lists .tasks) (g .lists .jobs) .«record») t) .entry
+      → getD (runSchedule g tie horizon lent) t idle ≡ stepAnswer g tie (stepsFrom g tie (freshAnswer (g .lists .tasks) (g .lists .jobs) .«record») t) .entry
   unfolding stepped runEntries
   ran-entry t l =
-      ap (λ (es : List ℕ). getD es t idle) (run-given g horizon lent ok .1) ∙ getD-entries g (choice g) (fresh (g .lists .jobs)) horizon t l
+      ap (λ (es : List ℕ). getD es t idle) (run-given g tie horizon lent ok .1) ∙ getD-entries g (choice g tie) (fresh (g .lists .jobs)) horizon t l
       ∙ ap (λ (s : Stepped). s .entry) (sym (ran-step t l))
 
 -- a legal schedule was accepted, and its verdicts are not refused

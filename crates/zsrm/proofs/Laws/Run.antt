@@ -1,19 +1,21 @@
 -- A run is a legal claim, from the fresh record and from any consistent record at which its first entry is legal, for any way to
--- choose that stays with its choice between scheduling instants; our run's is one. A run made in two parts is the run.
-use Prim.Native.Nat.{_+_, suc, zero, ℕ, _≤_}
-use mathlib.Core.Bool.{_&&_, false, not, true, _||_}
+-- choose that stays with its choice between scheduling instants; our run's is one, under either tie choice. A run made in two parts is
+-- the run.
+use Prim.Native.Nat.{_+_, _<_, suc, zero, ℕ, _≤_}
+use mathlib.Core.Bool.{false, true, _||_}
 use mathlib.Core.List.{_++_, List, [], _∷_}
-use mathlib.Core.Logic.{inl, inr, _⊎_}
-use mathlib.Core.Path.{ap, refl, _∙_, _≡_}
+use mathlib.Core.Logic.{inl, inr, _⊎_, ⊎-elim}
+use mathlib.Core.Path.{ap, refl, sym, _∙_, _≡_}
 use native.Mathlib.Nat.{suc-add, zero-add}
 use native.Mathlib.Omega.{arith}
-use lib.Dec.{eqb, ltb}
+use lib.Dec.{eqb}
 use lib.ListN.{length}
-use borrow.Author.Tests.{eq-eqb, lt-ltb}
-use Rattle.bits.specs.Below.{least, some}
-use Rattle.bits.proofs.Below.{least-found, least-none}
-use Rattle.bits.proofs.Bools.{and-true, either, not-of, or-left, or-right}
+use borrow.Author.Tests.{eq-eqb}
+use Rattle.bits.proofs.Below.{some-false}
+use Rattle.bits.proofs.Bools.{and-true, either, or-left, or-right}
 use Rattle.zsrm.specs.declared.record.Record.{Record}
+use Rattle.zsrm.specs.declared.tie.Tie.{Tie}
+use Rattle.zsrm.specs.declared.tie.Tie.the-variants.{Lowest, Stay}
 use Rattle.zsrm.specs.Legal.{candidateOrIdle, legalEntry, schedulingInstant, legalFrom}
 use Rattle.zsrm.specs.Record.{consistent, fresh}
 use Rattle.zsrm.specs.Run.{entriesBy, replay, runEntries}
@@ -21,26 +23,13 @@ use Rattle.zsrm.specs.Given.{Given}
 use Rattle.tables.specs.Tables.{idle, jobCount}
 use Rattle.zsrm.specs.Tick.{advanced, candidate, choice, someJob}
 use Rattle.zsrm.proofs.Laws.Consistent.{advanced-consistent, fresh-consistent}
-use Rattle.zsrm.proofs.Laws.Places.{tick-advanced, tick-fresh}
-use Rattle.zsrm.proofs.Laws.Steady.{choice-same}
+use Rattle.zsrm.proofs.Laws.Choice.{choice-idle, choice-kept, choice-lowest, choice-may}
+use Rattle.zsrm.proofs.Laws.Places.{previous-advanced, tick-advanced, tick-fresh}
+use Rattle.zsrm.proofs.Laws.Steady.{candidate-same, lowest-same}
+use Rattle.zsrm.proofs.Laws.Tick.{runs-or-idle}
 use Rattle.zsrm.proofs.Laws.Replay.{AllLegal, legal-goes-on}
 
 module _ (g : Given) where
-  pub choice-may : (r : Record) → candidateOrIdle g r (choice g r) ≡ true
-  unfolding candidateOrIdle choice someJob
-  choice-may r = go (either (some n (candidate g r)))
-    where
-      n : ℕ
-      n = jobCount (g .lists .jobs)
-
-      x : ℕ
-      x = least n (candidate g r) idle
-
-      go : (some n (candidate g r) ≡ true) ⊎ (some n (candidate g r) ≡ false)
-          → ((ltb x n && candidate g r x) || (eqb x idle && not (some n (candidate g r)))) ≡ true
-      go (inl s) = let w = least-found (candidate g r) n idle s in or-left _ (and-true (lt-ltb x n (w .0)) (w .1))
-      go (inr s) = or-right (ltb x n && candidate g r x) (and-true (eq-eqb x idle (least-none (candidate g r) n idle s)) (not-of s))
-
   -- a way to choose that takes what may be taken, and stays with it while the next tick is no scheduling instant
   pub record Steadfast (pick : Record → ℕ) : Type 0 where
     pub takes : (r : Record) → candidateOrIdle g r (pick r) ≡ true
@@ -78,12 +67,39 @@ module _ (g : Given) where
     run-legal-fresh h b = run-legal h (fresh (g .lists .jobs)) idle (rw tick-fresh (omega arith)) (fresh-consistent g) fresh-legal
 
   -- our run's choice is one
-  pub lowest-steadfast : jobCount (g .lists .jobs) ≤ 64 → Steadfast (choice g)
-  lowest-steadfast few = record { takes = choice-may; stays = λ r sound q. choice-same g r (choice g r) (choice g r) few sound q }
+  module _ (few : jobCount (g .lists .jobs) ≤ 64) where
+    -- an entry that could run is still a candidate, or there is still none, so Stay goes on with it
+    stay-goes-on : (r : Record) (e : ℕ) → candidateOrIdle g r e ≡ true → consistent g r ≡ true → schedulingInstant g (advanced g r e) e ≡ false
+        → choice g Stay (advanced g r e) ≡ e
+    unfolding someJob
+    stay-goes-on r e may sound still = ⊎-elim job none (runs-or-idle g r e may)
+      where
+        same : (j : ℕ) → j < jobCount (g .lists .jobs) → candidate g (advanced g r e) j ≡ candidate g r j
+        same = candidate-same g r e e few sound still
 
-  pub our-run-legal : jobCount (g .lists .jobs) ≤ 64 → (horizon : ℕ) → horizon ≤ 16384 → AllLegal g (fresh (g .lists .jobs)) idle (runEntries g horizon)
+        job : (e < jobCount (g .lists .jobs)) × (candidate g r e ≡ true) → choice g Stay (advanced g r e) ≡ e
+        job c =
+            let p = previous-advanced g r e in
+            choice-kept g (advanced g r e) (rw p (c .0)) (ap (candidate g (advanced g r e)) p ∙ same e (c .0) ∙ c .1) ∙ p
+
+        none : (e ≡ idle) × (someJob (g .lists .jobs) (candidate g r) ≡ false) → choice g Stay (advanced g r e) ≡ e
+        none c =
+            choice-idle g few Stay (advanced g r e) .1 (λ j l. same j l ∙ some-false (candidate g r) (jobCount (g .lists .jobs)) j l (c .1)) ∙ sym (c .0)
+
+    -- and the lowest candidate is still the lowest
+    choice-stays : (tie : Tie) (r : Record) → consistent g r ≡ true → schedulingInstant g (advanced g r (choice g tie r)) (choice g tie r) ≡ false
+        → choice g tie (advanced g r (choice g tie r)) ≡ choice g tie r
+    choice-stays Stay r sound still = stay-goes-on r (choice g Stay r) (choice-may g Stay r) sound still
+    choice-stays Lowest r sound still =
+        let e = choice g Lowest r in
+        choice-lowest g (advanced g r e) ∙ lowest-same g r e e few sound still ∙ sym (choice-lowest g r)
+
+    pub choice-steadfast : (tie : Tie) → Steadfast (choice g tie)
+    choice-steadfast tie = record { takes = choice-may g tie; stays = choice-stays tie }
+
+  pub our-run-legal : jobCount (g .lists .jobs) ≤ 64 → (tie : Tie) (horizon : ℕ) → horizon ≤ 16384 → AllLegal g (fresh (g .lists .jobs)) idle (runEntries g tie horizon)
   unfolding runEntries
-  our-run-legal few h b = run-legal-fresh (choice g) (lowest-steadfast few) h b
+  our-run-legal few tie h b = run-legal-fresh (choice g tie) (choice-steadfast few tie) h b
 
   -- running a ticks and then b is running a + b: for any way to choose
   pub replay-append : (r : Record) (xs ys : List ℕ) → replay g r (xs ++ ys) ≡ replay g (replay g r xs) ys
@@ -102,6 +118,6 @@ module _ (g : Given) where
   length-entries pick zero r = refl
   length-entries pick (suc n) r = ap suc (length-entries pick n (advanced g r (pick r)))
 
-  pub length-run : (horizon : ℕ) → length (runEntries g horizon) ≡ horizon
+  pub length-run : (tie : Tie) (horizon : ℕ) → length (runEntries g tie horizon) ≡ horizon
   unfolding runEntries
-  length-run horizon = length-entries (choice g) horizon (fresh (g .lists .jobs))
+  length-run tie horizon = length-entries (choice g tie) horizon (fresh (g .lists .jobs))

@@ -1,5 +1,5 @@
 -- Where a tick is no scheduling instant, the eligible jobs, and so the candidates, are those of the tick before.
--- So an entry that was legal stays a candidate, and our run, which takes the lowest candidate, is a legal claim.
+-- So an entry that was legal stays a candidate, the lowest candidate is the same, and our run is a legal claim.
 use Prim.Native.Nat.{_<_, suc, ℕ, _≤_}
 use mathlib.Core.Bool.{_&&_, Bool, false, not, true}
 use mathlib.Core.Path.{ap, ap₂, refl, _≡_}
@@ -15,7 +15,7 @@ use Rattle.zsrm.specs.Legal.{finishedAt, schedulingInstant, instantBy}
 use Rattle.zsrm.specs.Record.{consistent, doneAt, standingAt}
 use Rattle.zsrm.specs.Given.{Given}
 use Rattle.tables.specs.Tables.{arrival, idle, jobCount, jobCriticality, zeroSlackInstant}
-use Rattle.zsrm.specs.Tick.{advanced, alive, candidate, choice, eligible, ends, higherPriority, pastZeroSlack, someJob, standingAfter, unfinished}
+use Rattle.zsrm.specs.Tick.{advanced, alive, candidate, eligible, ends, higherPriority, lowest, pastZeroSlack, someJob, standingAfter, unfinished}
 use Rattle.zsrm.proofs.Laws.Consistent.{Sound, sound-at}
 use Rattle.zsrm.proofs.Laws.Places.{standing-advanced, opens, standing-alive}
 use Rattle.zsrm.proofs.Laws.Tick.{eligible-unended, top-eligible, goes-on, eligible-exactly, past-exactly}
@@ -92,6 +92,6 @@ module _ (g : Given) (r : Record) (e p : ℕ) (few : jobCount (g .lists .jobs) �
       (some-same (λ i. eligible g (advanced g r e) i && higherPriority g i j) (λ i. eligible g r i && higherPriority g i j) (jobCount (g .lists .jobs))
       (λ i m. ap (λ (b : Bool). b && higherPriority g i j) (eligible-same i m)))
 
-  pub choice-same : choice g (advanced g r e) ≡ choice g r
-  unfolding choice
-  choice-same = least-same (candidate g (advanced g r e)) (candidate g r) (jobCount (g .lists .jobs)) idle candidate-same
+  pub lowest-same : lowest g (advanced g r e) ≡ lowest g r
+  unfolding lowest
+  lowest-same = least-same (candidate g (advanced g r e)) (candidate g r) (jobCount (g .lists .jobs)) idle candidate-same

@@ -71,7 +71,7 @@ module _ (g : Given) (r : Record) where
       some-true (candidate g r) (jobCount (g .lists .jobs)) (w .0) (w .1 .below) (candidate-exactly (w .0) .1 (w .1 .passes, w .1 .tops))
 
   -- the entry of a tick is a candidate, or idle with none
-  runs-or-idle : (e : ℕ) → candidateOrIdle g r e ≡ true
+  pub runs-or-idle : (e : ℕ) → candidateOrIdle g r e ≡ true
       → ((e < jobCount (g .lists .jobs)) × (candidate g r e ≡ true)) ⊎ ((e ≡ idle) × (someJob (g .lists .jobs) (candidate g r) ≡ false))
   unfolding candidateOrIdle
   runs-or-idle e = or-reads (and-reads (lt-reads _ _) Iff·rfl) (and-reads (eq-reads _ _) (not-reads _)) .0

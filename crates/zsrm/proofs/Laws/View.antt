@@ -16,11 +16,12 @@ use Rattle.bits.proofs.Word.{bit-above, bit-word, highest-word, upTo, without-w
 use Rattle.zsrm.specs.declared.record.Record.{Record}
 use Rattle.zsrm.specs.declared.next.Ticked.{Ticked}
 use Rattle.zsrm.specs.declared.tick.View.{View}
+use Rattle.zsrm.specs.declared.tie.Tie.{Tie}
 use Rattle.zsrm.specs.Given.{isSE, Given}
 use Rattle.tables.specs.Tables.{idle, jobCount, jobCriticality, jobNominal, jobPriority, zeroSlackInstant, Lists}
 use Rattle.zsrm.specs.Record.{doneAt}
-use Rattle.zsrm.specs.Tick.{alive, candidate, choice, doneAfter, eligible, endedWord, ends, jobWord, moreCritical, over, pastZeroSlack, readyAt, readyWord, someJob, suspended, waits}
-use Rattle.zsrm.specs.Code.View.{lessCriticalWord, chosen, hasPriority, isPast, lessCriticalIn, lowestOf, overrunWord, overruns, pastWord, priorityWord, tickedBy, view, waitingWord, greatestKey, greatestCriticality}
+use Rattle.zsrm.specs.Tick.{alive, candidate, choice, doneAfter, eligible, endedWord, ends, isStay, jobWord, keeps, lowest, moreCritical, over, pastZeroSlack, readyAt, readyWord, someJob, suspended, waits}
+use Rattle.zsrm.specs.Code.View.{lessCriticalWord, chosen, hasPriority, isPast, keepsBy, lessCriticalIn, lowestOf, overrunWord, overruns, pastWord, priorityWord, tickedBy, view, waitingWord, greatestKey, greatestCriticality}
 use Rattle.zsrm.proofs.Laws.Ready.{candidate-top}
 use Rattle.zsrm.proofs.Laws.Tick.{ends-by, se-reads, waiting}
 
@@ -39,6 +40,16 @@ pub view-made : (l : Lists) (r : Record) (a p m s e y : ℕ) → a ≡ jobWord (
     → e ≡ without a s → y ≡ priorityWord l e → _≡_ {A = View} (record { alive = a; past = p; suspended = s; eligible = e; ready = y }) (view l r)
 unfolding view
 view-made l r a p m s e y qa qp qm qs qe qy = rw (qy, qe, qs, qm, qp, qa)
+
+-- our choice, as the code comes to it: the previous entry is kept, or the lowest is looked for
+module _ (l : Lists) (tie : Tie) (v : View) (previous top : ℕ) (kept : Bool) (p : top ≡ greatest 64 (bit (v .ready)) 64) (q : kept ≡ keepsBy l tie (v .eligible) top previous) where
+  pub chosen-kept : kept ≡ true → previous ≡ chosen l tie v previous
+  unfolding chosen
+  chosen-kept t = rw (← p, ← q, t)
+
+  pub chosen-else : kept ≡ false → (x : ℕ) → x ≡ lowestOf l (v .eligible) top → x ≡ chosen l tie v previous
+  unfolding chosen
+  chosen-else t x h = rw (← p, ← q, t) h
 
 -- a set of jobs and its word
 pub jobWord-same : (jobs : List ℕ) (f h : ℕ → Bool) → ((j : ℕ) → j < jobCount jobs → f j ≡ h j) → jobWord jobs f ≡ jobWord jobs h
@@ -137,15 +148,29 @@ module _ (g : Given) (r : Record) (few : jobCount (g .lists .jobs) ≤ 64) where
       let e : view (g .lists) r .eligible ≡ jobWord (g .lists .jobs) (eligible g r) = rw s eligible-view in
       record { alive = refl; past = past-view; suspended = s; eligible = e; ready = rw e ready-view }
 
-  -- our choice is the lowest-numbered job of the top priority
-  pub chosen-view : ((j : ℕ) → j < jobCount (g .lists .jobs) → jobPriority (g .lists) j < 64) → chosen (g .lists) (view (g .lists) r) ≡ choice g r
-  unfolding chosen lowestOf hasPriority choice readyWord
-  chosen-view fit =
-      least-same _ (candidate g r) (jobCount (g .lists .jobs)) idle
-      (λ j l. ap₂ (λ (b : Bool) (p : ℕ). b && eqb (jobPriority (g .lists) j) p)
-      (ap (λ (w : ℕ). bit w j) (seen .eligible) ∙ jobWord-bit (g .lists .jobs) (eligible g r) j few l)
-      (ap (λ (w : ℕ). greatest 64 (bit w) 64) (seen .ready) ∙ highest-word (readyAt g r) 64 64)
-      ∙ sym (candidate-top g r fit j l))
+  module _ (fit : (j : ℕ) → j < jobCount (g .lists .jobs) → jobPriority (g .lists) j < 64) where
+    -- a candidate is an eligible job of the top priority that is ready
+    pub candidate-view : (j : ℕ) → j < jobCount (g .lists .jobs)
+        → hasPriority (g .lists) (view (g .lists) r .eligible) (greatest 64 (bit (view (g .lists) r .ready)) 64) j ≡ candidate g r j
+    unfolding hasPriority readyWord
+    candidate-view j l =
+        ap₂ (λ (b : Bool) (p : ℕ). b && eqb (jobPriority (g .lists) j) p)
+        (ap (λ (w : ℕ). bit w j) (seen .eligible) ∙ jobWord-bit (g .lists .jobs) (eligible g r) j few l)
+        (ap (λ (w : ℕ). greatest 64 (bit w) 64) (seen .ready) ∙ highest-word (readyAt g r) 64 64)
+        ∙ sym (candidate-top g r fit j l)
+
+    -- our choice is the previous one that is kept, or the lowest-numbered
+    pub chosen-view : (tie : Tie) → chosen (g .lists) tie (view (g .lists) r) (r .previous) ≡ choice g tie r
+    unfolding chosen keepsBy lowestOf choice keeps lowest
+    chosen-view tie =
+        ap₂ (λ (b : Bool) (e : ℕ). cond b (r .previous) e)
+        (kept (isStay tie) (ltb (r .previous) (jobCount (g .lists .jobs))) _ _ (λ q. candidate-view (r .previous) (ltb-true (r .previous) (jobCount (g .lists .jobs)) q)))
+        (least-same _ (candidate g r) (jobCount (g .lists .jobs)) idle candidate-view)
+      where
+        kept : (s l x y : Bool) → (l ≡ true → x ≡ y) → (s && l && x) ≡ (s && l && y)
+        kept true true x y h = h refl
+        kept true false x y h = refl
+        kept false l x y h = refl
 
   -- the jobs that are over, and those that are ended
   module _ (e : ℕ) where

@@ -43,4 +43,4 @@ unfoldable pub nextAt : List ℕ → Record → Ticked → ℕ → Place
 nextAt jobs r w j = cond (ltb j (jobCount jobs)) (nextPlace (r .tick) w j (arrival jobs j) (execution jobs j) (placeAt r j)) (placeAt r j)
 
 unfoldable pub nextRecord : List ℕ → Record → Ticked → Record
-nextRecord jobs r w = record { tick = r .tick + 1; places = listFrom 0 64 (nextAt jobs r w) }
+nextRecord jobs r w = record { tick = r .tick + 1; previous = w .entry; places = listFrom 0 64 (nextAt jobs r w) }

@@ -9,9 +9,10 @@ use Rattle.bits.specs.Word.{without, withBit}
 use Rattle.zsrm.specs.declared.record.Record.{Record}
 use Rattle.zsrm.specs.declared.next.Ticked.{Ticked}
 use Rattle.zsrm.specs.declared.tick.View.{View}
+use Rattle.zsrm.specs.declared.tie.Tie.{Tie}
 use Rattle.tables.specs.Tables.{idle, jobCount, jobCriticality, jobPriority, jobNominal, zeroSlackInstant, Lists}
 use Rattle.zsrm.specs.Record.{doneAt}
-use Rattle.zsrm.specs.Tick.{alive, someJob, jobWord}
+use Rattle.zsrm.specs.Tick.{alive, isStay, someJob, jobWord}
 
 -- the greatest key among the numbers below the bound that pass, 0 where none does
 unfoldable pub greatestKey : ℕ → (ℕ → Bool) → (ℕ → ℕ) → ℕ
@@ -62,9 +63,15 @@ module _ (l : Lists) where
       let eligible = without living suspended in
       record { alive = living; past = past; suspended = suspended; eligible = eligible; ready = priorityWord eligible }
 
-  -- the lowest-numbered eligible job of the top priority that is ready
-  unfoldable pub chosen : View → ℕ
-  chosen v = lowestOf (v .eligible) (greatest 64 (bit (v .ready)) 64)
+  -- the tie choice is to stay, and the previous entry is a job of the set that has priority p
+  unfoldable pub keepsBy : Tie → ℕ → ℕ → ℕ → Bool
+  keepsBy tie among p previous = isStay tie && ltb previous (jobCount (l .jobs)) && hasPriority among p previous
+
+  -- of the eligible jobs of the top priority that is ready, the one that stays, else the lowest-numbered
+  unfoldable pub chosen : Tie → View → ℕ → ℕ
+  chosen tie v previous =
+      let top = greatest 64 (bit (v .ready)) 64 in
+      cond (keepsBy tie (v .eligible) top previous) previous (lowestOf (v .eligible) top)
 
 -- the jobs of a set that wait while e runs: all but e, where it is a job
 unfoldable pub waitingWord : List ℕ → ℕ → ℕ → ℕ

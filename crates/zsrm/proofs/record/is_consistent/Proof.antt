@@ -1,6 +1,6 @@
 -- The loop has gathered whether every place below j is sound.
 use Prim.Native.Nat.{_-_, _≤_, ℕ}
-use mathlib.Core.Path.{_≡_, refl, ap, _∙_}
+use mathlib.Core.Path.{_≡_, refl, ap, ap₂, _∙_}
 use mathlib.Core.Bool.{Bool, _&&_}
 use native.Mathlib.Omega.{arith}
 use lib.Dec.{leb}
@@ -28,11 +28,11 @@ loop-again c =
 returns : tie.Need-returns Inv-loop μ-loop
 unfolding consistent
 returns c =
-    let start = c .before .before .before .before in
-    let last : c .before .loop .j ≡ 64 = omega arith in
-    ap (λ (b : Bool). leb (start .args .t1 .tick) 16384 && b)
-    (c .before .loop .inv .1 ∙ ap (λ (k : ℕ). every k (soundAt (given (start .args .mode) (start .args .tasks .now) (start .args .jobs .now)) (start .args .t1))) last)
+    let start = c .before .before .before .before .before in
+    let last : c .before .before .loop .j ≡ 64 = omega arith in
+    ap₂ (λ (p b : Bool). leb (start .args .t1 .tick) 16384 && p && b) (c .is-sound-previous .ensures)
+    (c .before .before .loop .inv .1 ∙ ap (λ (k : ℕ). every k (soundAt (given (start .args .mode) (start .args .tasks .now) (start .args .jobs .now)) (start .args .t1))) last)
 
 pub is-consistent-spec : {M : Type 1} → statement M
 is-consistent-spec =
-    tie.close (tie.spec Inv-loop μ-loop (λ c. (omega arith, unfold every in refl)) (λ c. search needs) (λ c. search needs) (λ c. search needs) (λ c κs. search needs) (λ c. search needs) (λ c. search needs) loop-again returns)
+    tie.close (tie.spec Inv-loop μ-loop (λ c. (omega arith, unfold every in refl)) (λ c. search needs) (λ c. search needs) (λ c. search needs) (λ c κs. search needs) (λ c. search needs) (λ c. search needs) loop-again (λ c κs. search needs) returns)

@@ -13,10 +13,10 @@ returns c =
     let start = x .before .before .before in
     let g = given (start .args .mode) (start .args .tasks .now) (start .args .jobs .now) in
     let ok = start .pre .0 in
-    let chose = our-choice g ok (start .args .self) _ _ (x .at .ensures) (c .before .before .before .before .choice .ensures) in
+    let chose = our-choice g ok (start .args .tie) (start .args .self) _ _ (x .at .ensures) (c .before .before .before .before .choice .ensures) in
     let ended = c .before .before .before .ended-word .ensures in
-    let next = next-built g (start .args .self) _ (lists-few _ ok) (start .pre .1 .0) (our-choice-runs g ok (start .args .self) _ chose) _ _ _ _ (x .at .ensures) ended (c .before .before .ticked .ensures) (c .before .after .ensures) in
-    stepped-made g ok (start .args .self) _ _ _ _ _ (x .at .ensures) chose next ended (c .ones .ensures)
+    let next = next-built g (start .args .self) _ (lists-few _ ok) (start .pre .1 .0) (our-choice-runs g ok (start .args .tie) (start .args .self) _ chose) _ _ _ _ (x .at .ensures) ended (c .before .before .ticked .ensures) (c .before .after .ensures) in
+    stepped-made g ok (start .args .tie) (start .args .self) _ _ _ _ _ (x .at .ensures) chose next ended (c .ones .ensures)
 
 pub advance-spec : {M : Type 1} → statement M
 advance-spec =

@@ -11,7 +11,7 @@ use Rattle.zsrm.proofs.record.Record.after.Statement.{statement}
 use Rattle.zsrm.proofs.record.Record.after.Tie as tie
 
 abbrev Inv-loop : tie.InvT-loop
-Inv-loop ticked jobs n t out₀ j₀ out j = (j ≤ n) × Made jobs (record { tick = t; places = out₀ .places }) ticked out j
+Inv-loop ticked jobs n t out₀ j₀ out j = (j ≤ n) × Made jobs (record { tick = t; previous = out₀ .previous; places = out₀ .places }) ticked out j
 
 abbrev μ-loop : tie.MeasureT-loop
 μ-loop ticked jobs n t out₀ j₀ out j = n - j
