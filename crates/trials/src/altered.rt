@@ -1,5 +1,5 @@
-// Records with one change, or with many at once, from which a step and a verdict are asked: most with one are not consistent; of those with
-// many a good part is, and no run leads there.
+// Records with one change, or with many at once, from which a step, some ticks and a verdict are asked: most with one are not consistent;
+// of those with many a good part is, and no run leads there.
 ghost use Prim.Native.Nat.{_<_};
 use crate::draw::draw;
 use crate::list::ARRIVAL;
@@ -96,13 +96,18 @@ fn altered_place(p: Place, trial: u32, place: u32, tick: u32) -> Place
     }
 }
 
-fn some_tick(trial: u32, place: u32, tick: u32) -> u32 {
+fn some_tick(trial: u32, place: u32, tick: u32) -> u32
+    requires { ⌜ place < 60000 ⌝ }
+{
     let kind = draw(trial, place, 6);
     if kind == 0 {
         return tick % 65536 + 1;
     }
     if kind == 1 {
         return less(tick, 1);
+    }
+    if kind == 3 {
+        return less(16384, draw(trial, place + 1, 40) + 1);
     }
     if kind == 2 { 16385 } else { 16384 }
 }

@@ -23,7 +23,36 @@ pub(crate) fn fill(line: &mut Line, from: u32, to: u32, entry: u16) {
     }
 }
 
-// A run up to the horizon, by a way to choose among equals: its entries are written, and where it ends is the answer.
+// A run of so many ticks from an instant, by a way to choose among equals: its entries are written from the front on, and where it ends is
+// the answer.
+pub(crate) fn fly_on(
+    start: Sim,
+    se: bool,
+    tasks: &[u32],
+    jobs: &[u32],
+    ticks: u32,
+    way: u32,
+    line: &mut Line,
+) -> Sim {
+    let to = start.now % 65536 + ticks % 65536;
+    let mut s = start;
+    for leaps in 0..ticks {
+        if s.now < to {
+            let x = chosen(s, tasks, jobs, way);
+            let end = leap(s, se, tasks, jobs, x, to);
+            fill(
+                line,
+                less(s.now, start.now),
+                less(end.now, start.now),
+                entry_of(x),
+            );
+            s = end;
+        }
+    }
+    s
+}
+
+// A run up to the horizon.
 pub(crate) fn fly(
     se: bool,
     tasks: &[u32],
@@ -32,16 +61,7 @@ pub(crate) fn fly(
     way: u32,
     line: &mut Line,
 ) -> Sim {
-    let mut s = begin(jobs);
-    for leaps in 0..horizon {
-        if s.now < horizon {
-            let x = chosen(s, tasks, jobs, way);
-            let end = leap(s, se, tasks, jobs, x, horizon);
-            fill(line, s.now, end.now, entry_of(x));
-            s = end;
-        }
-    }
-    s
+    fly_on(begin(jobs), se, tasks, jobs, horizon, way, line)
 }
 
 // The end of the stretch of equal entries that begins at a tick.

@@ -13,6 +13,8 @@ use crate::judge::ticks_of;
 use crate::list::Case;
 use crate::list::front;
 use crate::list::no_line;
+use crate::parts::try_any;
+use crate::parts::try_parts;
 use crate::runs::count_ticks;
 use crate::runs::try_fresh;
 use crate::runs::try_run;
@@ -84,7 +86,7 @@ fn input_of(kind: u32, trial: u32, se: bool) -> Input {
     }
 }
 
-// One input through every public function: run, fresh, step, verdict, claim, witness, response.
+// One input through every public function: run, fresh, step, go_on, verdict, claim, witness, response.
 fn try_input(t: &mut Tally, case: Case, tasks: &[u32], jobs: &[u32], between: usize) {
     let key = schedule_key(tasks, jobs, case.horizon, case.room);
     let ticks = ticks_of(key, case.horizon);
@@ -94,19 +96,22 @@ fn try_input(t: &mut Tally, case: Case, tasks: &[u32], jobs: &[u32], between: us
     try_steps(t, case, tasks, jobs, fresh, ticks);
     try_step(t, case, tasks, jobs, rec);
     try_verdicts(t, case, tasks, jobs, rec);
+    try_any(t, case, tasks, jobs, rec);
     if key == FINE {
         count_ticks(t, &own, ticks);
+        try_parts(t, case, tasks, jobs, fresh, rec, &own, ticks);
     }
     try_claims(t, case, tasks, jobs, &own, ticks, between);
 }
 
-// The record of a run, altered: a step and the verdicts from it.
+// The record of a run, altered: a step, some ticks and the verdicts from it.
 fn try_altered(t: &mut Tally, case: Case, tasks: &[u32], jobs: &[u32], many: bool) {
     let key = schedule_key(tasks, jobs, case.horizon, case.room);
     let mut own = no_line();
     let ran = try_run(t, case, tasks, jobs, key, &mut own);
     let rec = altered(ran, case, jobs, many);
     try_step(t, case, tasks, jobs, rec);
+    try_any(t, case, tasks, jobs, rec);
     try_verdicts(t, case, tasks, jobs, rec);
 }
 

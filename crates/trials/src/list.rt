@@ -134,3 +134,14 @@ pub(crate) fn front(list: &[u32], n: usize) -> &[u32] {
 pub(crate) fn front_of_line(line: &[u16], n: usize) -> &[u16] {
     if n <= line.len() { &line[0..n] } else { line }
 }
+
+// So many entries from a place on, or all where there are fewer.
+pub(crate) fn part_of_line(line: &[u16], from: usize, n: usize) -> &[u16] {
+    let at = from % 65536;
+    let to = at + n % 65536;
+    if to <= line.len() {
+        &line[at..to]
+    } else {
+        line
+    }
+}

@@ -12,6 +12,7 @@ mod judge;
 mod leap;
 mod lines;
 mod list;
+mod parts;
 mod records;
 mod runs;
 mod tally;

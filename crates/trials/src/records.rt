@@ -31,6 +31,20 @@ pub(crate) fn holds(rec: Record, jobs: &[u32], s: Sim) -> bool {
     same
 }
 
+// Whether two records are the same, number for number.
+pub(crate) fn same_record(a: Record, b: Record) -> bool {
+    let mut same = (a.tick == b.tick) & (a.previous == b.previous);
+    for j in 0..64 {
+        let p = a.places[j];
+        let q = b.places[j];
+        let first = p.standing;
+        let second = q.standing;
+        let times = (p.done == q.done) & (p.suspended == q.suspended) & (p.waited == q.waited);
+        same = times & (of_standing(first) == of_standing(second)) & same;
+    }
+    same
+}
+
 // The fate of a job at a place: one without work that is yet to come finishes as it arrives.
 fn fate_of(place: Place, jobs: &[u32], j: usize) -> u32 {
     let standing = place.standing;

@@ -78,8 +78,18 @@ pub(crate) fn alike(got: &[u16], want: &[u16], from: u32) -> bool {
     true
 }
 
+// The same of a whole line.
+pub(crate) fn alike_line(got: &[u16], want: &Line, from: u32) -> bool {
+    alike(got, want, from)
+}
+
+// Whether two lines begin alike, for so many entries.
+pub(crate) fn begin_alike(got: &Line, want: &Line, n: usize) -> bool {
+    alike(front_of_line(got, n), want, 0)
+}
+
 // The jobs that a record is to hold: none where the call is refused.
-fn held_jobs(jobs: &[u32], key: u32) -> &[u32] {
+pub(crate) fn held_jobs(jobs: &[u32], key: u32) -> &[u32] {
     if key == FINE { jobs } else { front(jobs, 0) }
 }
 
@@ -289,7 +299,7 @@ pub(crate) fn verdict_of(s: Sim, tasks: &[u32], jobs: &[u32], j: u32) -> u64 {
 }
 
 // What is wrong with lists or record, as a key.
-fn record_key(case: Case, tasks: &[u32], jobs: &[u32], rec: Record) -> u32 {
+pub(crate) fn record_key(case: Case, tasks: &[u32], jobs: &[u32], rec: Record) -> u32 {
     let unfit = late(!consistent(rec, case.se, jobs), 11);
     least(lists_key(tasks, jobs), unfit)
 }

@@ -9,7 +9,7 @@ use crate::list::Case;
 use crate::list::at;
 use crate::list::entry_at;
 
-pub(crate) type Tally = [u32; 512];
+pub(crate) type Tally = [u32; 576];
 
 pub(crate) const INPUTS: usize = 0;
 
@@ -35,6 +35,10 @@ pub(crate) const CLAIM: usize = 224;
 
 pub(crate) const ALL_VERDICTS: usize = 480;
 
+pub(crate) const GO_ON: usize = 512;
+
+pub(crate) const PARTS: usize = 544;
+
 // What is counted beside the answers.
 pub(crate) const IDLE_TICKS: usize = 33;
 
@@ -52,20 +56,22 @@ pub(crate) const TIES_DIFFER: usize = 98;
 
 pub(crate) const AFTER: usize = 100;
 
+pub(crate) const NO_TICK_ON: usize = 513;
+
 pub(crate) const UNLIKE_OURS: usize = 2;
 
 const MADE: usize = 31;
 
 pub(crate) fn nothing() -> Tally {
-    [0; 512]
+    [0; 576]
 }
 
 pub(crate) fn count(t: &Tally, what: usize) -> u32 {
-    if what < 512 { t[what] } else { 0 }
+    if what < 576 { t[what] } else { 0 }
 }
 
 pub(crate) fn add(t: &mut Tally, what: usize, by: u32) {
-    if what < 512 {
+    if what < 576 {
         t[what] = std::num::wrapping_add_u32(t[what], by);
     }
 }
@@ -92,11 +98,11 @@ fn class(answer: u64) -> usize {
     }
 }
 
-// A call was compared: what it names, a job or a tick, what was expected, and what came.
+// A call was compared: what it names, a job, a tick or how many parts, what was expected, and what came.
 pub(crate) fn note(t: &mut Tally, call: usize, number: u32, want: u64, got: u64) {
     add(t, CALLS, 1);
-    add(t, call % 512 + MADE, 1);
-    add(t, call % 512 + class(want) % 32, 1);
+    add(t, call % 576 + MADE, 1);
+    add(t, call % 576 + class(want) % 32, 1);
     if want != got {
         add(t, DIFFERENCES, 1);
         difference(call / 32, number, want, got);
@@ -131,7 +137,7 @@ fn refused(number: usize, times: u32) {
 
 // What the words name, so many counts, and the refusals that came; nothing of a call that was not made.
 fn line(t: &Tally, words: &[u8], call: usize, n: usize) {
-    let first = call % 512;
+    let first = call % 576;
     if count(t, first + MADE) == 0 {
         return;
     }
@@ -209,6 +215,8 @@ pub(crate) fn report(t: &Tally) {
         ALL_VERDICTS,
         5,
     );
+    line(t, b"  going on done, by no tick:", GO_ON, 2);
+    line(t, b"  run in parts, of them in 2, 3, 4, 5 parts:", PARTS, 5);
 }
 
 fn numbers(name: &[u8], list: &[u32]) {

@@ -22,3 +22,4 @@ pub mod Exactly
 pub mod Called
 pub mod Bytes
 pub mod Promises
+pub mod GoOn

@@ -1,18 +1,20 @@
 -- The promises, for every input, either mode, either tie choice, and every legal schedule, ours and any other. Read this file first.
 --
 -- `claimAnswer g horizon schedule` is what the claim check answers: each `..Answer`, and for the calls from C each `..Result`, is the whole
--- contract of its function in src/, which takes any input and returns; with `runSchedule` and `runBytes` for what a run writes. `checkLists`,
--- `checkStep`, `checkSchedule`, `checkVerdict` and `checkWitness` are the checks of each entry point, in the order of their numbers.
+-- contract of its function in src/, which takes any input and returns; with `runSchedule`, `goOnSchedule` and `runBytes` for what a run
+-- writes. `checkLists`, `checkStep`, `checkGoOn`, `checkSchedule`, `checkVerdict` and `checkWitness` are the checks of each entry point, in
+-- the order of their numbers.
 -- `..Said` says an answer in numbers, and Said gives each its name: `done`, `refused number place`, `legal`, `notLegal t`, `met`,
 -- `late n isExact`, `ended`, `outside i`, `notMissed`, `acceptedLate n isExact`, `acceptedEnded`, `unfinished`, `finishedAt f`,
 -- `endedIn e`. `recordBefore g schedule t` is the record before tick t of the schedule, `replayed g schedule` the one at its end, and
 -- `replay g r entries` the one that entries lead to from r; `suspendedAt r j` and `waitedAt r j` are the ticks that a record counts for job
 -- j as suspended while alive and as eligible while another job ran. Steps and runs take a tie choice, `Stay` or `Lowest`, and `r .previous`
 -- is what r keeps as the entry before its tick; a caller may hand in any job there. All of them are definitions of specs/. Laws/Promises
--- has `topmost-example`, a table that meets the premise of (ii), and Traced `ties-differ`, a record from which the tie choices differ.
+-- has `topmost-example`, a table that meets the premise of (ii), and Traced `ties-differ`, a record from which the tie choices differ, and
+-- `lowest-goes-on-illegally`, a legal schedule after which Lowest does not go on legally.
 use Prim.Native.Nat.{_*_, _+_, _-_, _<_, ℕ, _≤_}
 use mathlib.Core.Bool.{Bool, false, true}
-use mathlib.Core.List.{List}
+use mathlib.Core.List.{_++_, List, [], _∷_}
 use mathlib.Core.Logic.{_↔_}
 use mathlib.Core.Path.{ap, refl, subst, sym, _≡_, _∙_}
 use native.Mathlib.Omega.{arith}
@@ -23,7 +25,7 @@ use Rattle.zsrm.specs.declared.record.Record.{Record}
 use Rattle.zsrm.specs.declared.tie.Tie.{Tie}
 use Rattle.zsrm.specs.declared.tie.Tie.the-variants.{Lowest, Stay}
 use Rattle.zsrm.specs.declared.record.Standing.the-variants.{Finished, Ended}
-use Rattle.zsrm.specs.Answers.{checkSchedule, checkStep, checkVerdict, checkWitness, claimAnswer, freshAnswer, ran, refusedStep, responseAnswer, judgedAt, runAnswer, runSchedule, stepAnswer, stepped, stepsFrom, verdictAnswer, verdictsAnswer, witnessAnswer}
+use Rattle.zsrm.specs.Answers.{checkGoOn, checkSchedule, checkStep, checkVerdict, checkWitness, claimAnswer, freshAnswer, goOnAnswer, goOnSchedule, ran, refusedStep, responseAnswer, judgedAt, runAnswer, runSchedule, stepAnswer, stepped, stepsFrom, verdictAnswer, verdictsAnswer, witnessAnswer}
 use Rattle.zsrm.specs.Record.{blank, consistent, fresh, standingAt, suspendedAt, waitedAt}
 use Rattle.tables.specs.Refusals.{checkLists}
 use Rattle.zsrm.specs.Run.{replay, replayed, recordBefore}
@@ -53,17 +55,21 @@ use Rattle.zsrm.proofs.Laws.Called.{c-refused-both, c-run-claim, c-run-
 use Rattle.zsrm.specs.Bytes.{bytes2, checkBytes, claimResult, givenBytes, numbers2, runBytes, runResult}
 use Rattle.zsrm.proofs.Laws.Called as called
 use Rattle.zsrm.proofs.Laws.Exactly as exactly
+use Rattle.zsrm.proofs.Laws.GoOn as parts
 
 -- ## Demand 1: bad input gets exactly the refusal that the checks name, and the caller's lists then hold what they held
 
--- The outcome of a fresh record, a step and a run is what its checks say; a claim, a verdict and a witness are refused exactly where
--- theirs refuse.
+-- The outcome of a fresh record, a step, going on and a run is what its checks say; a claim, a verdict and a witness are refused exactly
+-- where theirs refuse.
 pub fresh-checked : (tasks jobs : List ℕ) → freshAnswer tasks jobs .outcome ≡ checkLists (lists tasks jobs)
 unfolding freshAnswer ran
 fresh-checked tasks jobs = refl
 
 pub step-checked : (g : Given) (tie : Tie) (r : Record) → stepAnswer g tie r .outcome ≡ checkStep g r
 step-checked g tie r = exactly.step-checked g tie r
+
+pub go-on-checked : (g : Given) (tie : Tie) (r : Record) (ticks : ℕ) (lent : List ℕ) → goOnAnswer g tie r ticks lent .outcome ≡ checkGoOn g r ticks (length lent)
+go-on-checked g tie r ticks lent = parts.go-on-outcome g tie r ticks lent
 
 pub run-outcome-checked : (g : Given) (tie : Tie) (horizon : ℕ) (lent : List ℕ) → runAnswer g tie horizon lent .outcome ≡ checkSchedule (g .lists) horizon (length lent)
 run-outcome-checked g tie horizon lent = run-outcome g tie horizon lent
@@ -106,6 +112,11 @@ fresh-done tasks jobs ok = exactly.fresh-done tasks jobs ok
 pub refused-keeps : (g : Given) (tie : Tie) (horizon : ℕ) (lent : List ℕ) (number place : ℕ) → outcomeSaid (runAnswer g tie horizon lent .outcome) ≡ refused number place
     → (runSchedule g tie horizon lent ≡ lent) × (runAnswer g tie horizon lent .«record» ≡ blank)
 refused-keeps g tie horizon lent number place says = run-refused-keeps g tie horizon lent number place says
+
+-- Where going on is refused, likewise.
+pub refused-go-on-keeps : (g : Given) (tie : Tie) (r : Record) (ticks : ℕ) (lent : List ℕ) (number place : ℕ) → outcomeSaid (goOnAnswer g tie r ticks lent .outcome) ≡ refused number place
+    → (goOnSchedule g tie r ticks lent ≡ lent) × (goOnAnswer g tie r ticks lent .«record» ≡ blank)
+refused-go-on-keeps g tie r ticks lent number place says = parts.go-on-refused-keeps g tie r ticks lent number place says
 
 -- Where a step is refused, its record is blank and every other number in it is 0 (`refusedStep`).
 pub refused-step : (g : Given) (tie : Tie) (r : Record) (number place : ℕ) → outcomeSaid (stepAnswer g tie r .outcome) ≡ refused number place
@@ -184,6 +195,88 @@ module _ (g : Given) (tie : Tie) (r : Record) (ok : outcomeSaid (stepAnswer g ti
       let kept = step-keeps g tie r ok in
       subst (λ (e : ℕ). candidate g (stepAnswer g tie r .«record») e ≡ false) kept
       (switches g (stepAnswer g tie r .«record») next (subst (λ (e : ℕ). e < jobCount (g .lists .jobs)) (sym kept) job) (λ q. other (q ∙ kept)))
+
+-- Longer planning by parts, in either mode and under either tie choice: from a record that was saved, as many ticks on as are asked for.
+module _ (g : Given) (tie : Tie) (r : Record) where
+  -- Going on is done exactly where the lists pass their checks, the lent list has one entry for each tick, the record is consistent, and its
+  -- tick plus the ticks stays within 16,384 ..
+  pub go-on-exactly : (ticks : ℕ) (lent : List ℕ) → outcomeSaid (goOnAnswer g tie r ticks lent .outcome) ≡ done
+      ↔ (outcomeSaid (checkLists (g .lists)) ≡ done) × (length lent ≡ ticks) × (consistent g r ≡ true) × (r .tick + ticks ≤ 16384)
+  go-on-exactly ticks lent = parts.go-on-exactly g tie r ticks lent
+
+  -- .. and past that it is refused with 12, its entries unwritten.
+  pub go-on-past-limit : (ticks : ℕ) (lent : List ℕ) → outcomeSaid (checkLists (g .lists)) ≡ done → length lent ≡ ticks → consistent g r ≡ true → 16384 < r .tick + ticks
+      → (outcomeSaid (goOnAnswer g tie r ticks lent .outcome) ≡ refused 12 0) × (goOnSchedule g tie r ticks lent ≡ lent)
+  go-on-past-limit ticks lent lists whole sound past =
+      let says = parts.go-on-past-said g tie r ticks lent lists whole sound past in
+      (says, refused-go-on-keeps g tie r ticks lent 12 0 says .0)
+
+  -- Running 0 ticks gives a consistent record back, at tick 16,384 too.
+  pub go-on-nothing : outcomeSaid (checkLists (g .lists)) ≡ done → consistent g r ≡ true
+      → (outcomeSaid (goOnAnswer g tie r 0 [] .outcome) ≡ done) × (goOnAnswer g tie r 0 [] .«record» ≡ r) × (goOnSchedule g tie r 0 [] ≡ [])
+  go-on-nothing lists sound = parts.go-on-none g tie r lists sound
+
+  module _ (a b : ℕ) (first second lent : List ℕ) (one : length first ≡ a) (two : length second ≡ b) (long : length lent ≡ a + b) where
+    -- Running a ticks, and then b from the record that this gives, is done exactly where running a + b is ..
+    pub parts-exactly : outcomeSaid (goOnAnswer g tie r (a + b) lent .outcome) ≡ done
+        ↔ (outcomeSaid (goOnAnswer g tie r a first .outcome) ≡ done) × (outcomeSaid (goOnAnswer g tie (goOnAnswer g tie r a first .«record») b second .outcome) ≡ done)
+    parts-exactly = parts.parts-exactly g tie r a b first second lent one two long
+
+    -- .. and then gives the same record, and the same entries end to end.
+    pub parts-agree : outcomeSaid (goOnAnswer g tie r (a + b) lent .outcome) ≡ done
+        → (goOnAnswer g tie r (a + b) lent .«record» ≡ goOnAnswer g tie (goOnAnswer g tie r a first .«record») b second .«record»)
+        × (goOnSchedule g tie r (a + b) lent ≡ goOnSchedule g tie r a first ++ goOnSchedule g tie (goOnAnswer g tie r a first .«record») b second)
+    parts-agree ok = parts.by-parts g tie r a b first second lent one two (parts.go-on-checked g tie r (a + b) lent .0 ok)
+
+  -- The record that going on gives is consistent, so it may be saved and handed in again; its tick is as many ticks on, and it is what
+  -- `step` gives, repeated as often.
+  pub go-on-record : (ticks : ℕ) (lent : List ℕ) → outcomeSaid (goOnAnswer g tie r ticks lent .outcome) ≡ done
+      → (consistent g (goOnAnswer g tie r ticks lent .«record») ≡ true) × (goOnAnswer g tie r ticks lent .«record» .tick ≡ r .tick + ticks)
+      × (goOnAnswer g tie r ticks lent .«record» ≡ stepsFrom g tie r ticks)
+  go-on-record ticks lent ok = parts.go-on-leaves g tie r ticks lent (parts.go-on-checked g tie r ticks lent .0 ok)
+
+  -- Going on by one tick is a step: the same outcome and the same record, refusals too, and where it is done the same entry.
+  module _ (lent : List ℕ) (one : length lent ≡ 1) where
+    pub go-on-one : (goOnAnswer g tie r 1 lent .outcome ≡ stepAnswer g tie r .outcome) × (goOnAnswer g tie r 1 lent .«record» ≡ stepAnswer g tie r .«record»)
+    go-on-one = (go-on-checked g tie r 1 lent ∙ parts.one-checked g r (length lent) one ∙ sym (step-checked g tie r), parts.one-record g tie r lent one)
+
+    pub go-on-one-entry : outcomeSaid (stepAnswer g tie r .outcome) ≡ done → goOnSchedule g tie r 1 lent ≡ stepAnswer g tie r .entry ∷ []
+    go-on-one-entry ok = parts.one-entry g tie r lent one ok
+
+-- Our run is going on from the fresh record, refusals too, for every horizon to 16,384 ..
+pub run-is-go-on : (g : Given) (tie : Tie) (horizon : ℕ) (lent : List ℕ) → horizon ≤ 16384
+    → (runAnswer g tie horizon lent ≡ goOnAnswer g tie (freshAnswer (g .lists .tasks) (g .lists .jobs) .«record») horizon lent)
+    × (runSchedule g tie horizon lent ≡ goOnSchedule g tie (freshAnswer (g .lists .tasks) (g .lists .jobs) .«record») horizon lent)
+unfolding outcomeSaid freshAnswer ran
+run-is-go-on g tie horizon lent within =
+    parts.run-goes-on g tie horizon lent (freshAnswer (g .lists .tasks) (g .lists .jobs) .«record») within (λ ok. fresh-done (g .lists .tasks) (g .lists .jobs) (ap outcomeSaid ok))
+
+-- .. beyond which it is refused with 9, and going on with 12 (`go-on-past-limit`).
+pub run-past-limit : (g : Given) (tie : Tie) (horizon : ℕ) (lent : List ℕ) → outcomeSaid (checkLists (g .lists)) ≡ done → 16384 < horizon
+    → outcomeSaid (runAnswer g tie horizon lent .outcome) ≡ refused 9 0
+run-past-limit g tie horizon lent lists past = parts.run-past-said g tie horizon lent lists past
+
+-- From the record of a run of ours both tie choices go on alike, refusals too.
+pub run-goes-on-alike : (g : Given) (tie : Tie) (horizon : ℕ) (lent : List ℕ) → outcomeSaid (runAnswer g tie horizon lent .outcome) ≡ done → (ticks : ℕ) (more : List ℕ)
+    → (goOnAnswer g Stay (runAnswer g tie horizon lent .«record») ticks more ≡ goOnAnswer g Lowest (runAnswer g tie horizon lent .«record») ticks more)
+    × (goOnSchedule g Stay (runAnswer g tie horizon lent .«record») ticks more ≡ goOnSchedule g Lowest (runAnswer g tie horizon lent .«record») ticks more)
+run-goes-on-alike g tie horizon lent ok ticks more = parts.run-goes-on-alike g tie horizon lent (run-checked g tie horizon lent ok) ticks more
+
+-- From the record at the end of a schedule that the claim check answers legal, ours or any other, going on is done as far as tick 16,384 ..
+module _ (g : Given) (horizon : ℕ) (schedule : List ℕ) (ok : claimSaid (claimAnswer g horizon schedule) ≡ legal)
+    (ticks : ℕ) (lent : List ℕ) (whole : length lent ≡ ticks) (room : horizon + ticks ≤ 16384) where
+  pub legal-go-on-done : (tie : Tie) → outcomeSaid (goOnAnswer g tie (replayed g schedule) ticks lent .outcome) ≡ done
+  legal-go-on-done tie =
+      parts.go-on-checked g tie (replayed g schedule) ticks lent .1 (parts.claim-accepted g horizon schedule (is-legal g horizon schedule ok) ticks lent whole room)
+
+  -- .. its record is the one at the end of both schedules, end to end ..
+  pub legal-go-on-record : (tie : Tie) → goOnAnswer g tie (replayed g schedule) ticks lent .«record» ≡ replayed g (schedule ++ goOnSchedule g tie (replayed g schedule) ticks lent)
+  legal-go-on-record tie = parts.record-goes-on g horizon schedule (is-legal g horizon schedule ok) ticks lent whole room tie
+
+  -- .. and under Stay these make a legal schedule. Under Lowest they need not (`lowest-goes-on-illegally` in Traced).
+  pub stay-goes-on-legally : claimSaid (claimAnswer g (horizon + ticks) (schedule ++ goOnSchedule g Stay (replayed g schedule) ticks lent)) ≡ legal
+  unfolding claimSaid
+  stay-goes-on-legally = ap claimSaid (parts.claim-goes-on g horizon schedule (is-legal g horizon schedule ok) ticks lent whole room)
 
 -- A claim is answered "legal" exactly when its input passes the checks and every one of its ticks is legal, earlier entries taken as
 -- given (`LegalAt` in Readings) ..

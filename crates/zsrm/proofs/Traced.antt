@@ -2,18 +2,20 @@
 -- says. By computation.
 use mathlib.Core.List.{[], _∷_, map}
 use mathlib.Core.Path.{refl, _≡_}
+use lib.ListN.{replicate}
 use Rattle.bits.specs.Below.{count, every, greatest, least, listFrom, some, word}
+use Rattle.zsrm.specs.declared.answers.Claim.the-variants.{Legal, NotLegal}
 use Rattle.zsrm.specs.declared.mode.Mode.{Mode}
 use Rattle.zsrm.specs.declared.mode.Mode.the-variants.{S, SE}
 use Rattle.zsrm.specs.declared.record.Record.{Record}
 use Rattle.zsrm.specs.declared.tie.Tie.{Tie}
 use Rattle.zsrm.specs.declared.tie.Tie.the-variants.{Lowest, Stay}
-use Rattle.zsrm.specs.Answers.{checkSchedule, checkVerdict, checkWitness, claimAnswer, checkStep, ran, runAnswer, runSchedule, stepAnswer, stepped, verdictAnswer, witnessAnswer}
+use Rattle.zsrm.specs.Answers.{checkSchedule, checkVerdict, checkWitness, claimAnswer, checkGoOn, checkStep, goOnSchedule, ran, runAnswer, runSchedule, stepAnswer, stepped, verdictAnswer, witnessAnswer}
 use Rattle.tables.specs.declared.outcome.Outcome.the-variants.{Done}
 use Rattle.tables.specs.Refusals.{unless, ascending, before, check10, check13, check2, check3, check4, check5, check6, check7, check8, check9, checkJobs, checkLists, checkTasks, outside, preceding, refuse}
 use Rattle.zsrm.specs.Given.{given}
 use Rattle.zsrm.specs.Legal.{claim, candidateOrIdle, legalEntry, schedulingInstant, instantBy, isLegal, legalFrom, legalLength}
-use Rattle.zsrm.specs.Record.{arrived, arriving, blank, consistent, doneAt, fresh, freshPlace, opening, placeAt, soundAt, soundPrevious, standingAt, suspendedAt, waitedAt, check11, check12}
+use Rattle.zsrm.specs.Record.{arrived, arriving, blank, consistent, doneAt, fresh, freshPlace, opening, placeAt, soundAt, soundPrevious, standingAt, suspendedAt, waitedAt, check11, check12, checkRoom}
 use Rattle.zsrm.specs.Run.{entriesBy, replay, runEntries, runRecord, finalBy, replayed}
 use Rattle.tables.specs.Tables.{arrival, criticality, deadline, deadlineInstant, execution, jobCount, jobCriticality, jobNominal, jobPriority, nominal, overload, period, priority, taskCount, taskOf, offset, zeroSlackInstant}
 use Rattle.zsrm.specs.Tick.{advanced, alive, candidate, choice, doneAfter, eligible, ends, finishes, goesOn, higherPriority, keeps, lowest, moreCritical, over, pastZeroSlack, placeAfter, someJob, standingAfter, suspended, suspendedAfter, waitedAfter, waits}
@@ -35,3 +37,15 @@ pub ties-differ : (mode : Mode) → (stepAnswer (given mode equals both) Stay (h
 unfolding some every least greatest listFrom taskCount period deadline nominal overload criticality priority offset jobCount taskOf arrival execution jobCriticality jobPriority jobNominal zeroSlackInstant refuse before ascending outside check2 check3 check4 checkTasks check5 preceding check6 check7 check8 checkJobs checkLists check11 placeAt doneAt suspendedAt waitedAt standingAt arriving arrived opening freshPlace fresh soundAt soundPrevious consistent alive someJob moreCritical higherPriority pastZeroSlack suspended eligible candidate lowest keeps choice doneAfter over ends finishes suspendedAfter waits waitedAfter goesOn standingAfter placeAfter advanced replay unless check12 checkStep stepAnswer stepped
 ties-differ S = (refl, refl, refl)
 ties-differ SE = (refl, refl, refl)
+
+-- So after a legal schedule Lowest need not go on legally. Job 1 alone is legal at tick 0; from the record at its end Lowest goes on with
+-- 00011, and 100011 is not legal at 1, which is no scheduling instant. Stay goes on with 11000, and 111000 is legal.
+pub lowest-goes-on-illegally : (mode : Mode)
+    → (claimAnswer (given mode equals both) 1 (1 ∷ []) ≡ Legal)
+    × (goOnSchedule (given mode equals both) Lowest (replayed (given mode equals both) (1 ∷ [])) 5 (replicate 5 0) ≡ 0 ∷ 0 ∷ 0 ∷ 1 ∷ 1 ∷ [])
+    × (claimAnswer (given mode equals both) 6 (1 ∷ 0 ∷ 0 ∷ 0 ∷ 1 ∷ 1 ∷ []) ≡ NotLegal 1)
+    × (goOnSchedule (given mode equals both) Stay (replayed (given mode equals both) (1 ∷ [])) 5 (replicate 5 0) ≡ 1 ∷ 1 ∷ 0 ∷ 0 ∷ 0 ∷ [])
+    × (claimAnswer (given mode equals both) 6 (1 ∷ 1 ∷ 1 ∷ 0 ∷ 0 ∷ 0 ∷ []) ≡ Legal)
+unfolding some every least greatest listFrom taskCount period deadline nominal overload criticality priority offset jobCount taskOf arrival execution jobCriticality jobPriority jobNominal zeroSlackInstant refuse before ascending outside check2 check3 check4 checkTasks check5 preceding check6 check7 check8 checkJobs checkLists check9 check10 check11 placeAt doneAt suspendedAt waitedAt standingAt arriving arrived opening freshPlace fresh soundAt soundPrevious consistent alive someJob moreCritical higherPriority pastZeroSlack suspended eligible candidate lowest keeps choice doneAfter over ends finishes suspendedAfter waits waitedAfter goesOn standingAfter placeAfter advanced replay entriesBy instantBy schedulingInstant candidateOrIdle legalEntry legalFrom legalLength isLegal claim unless checkSchedule claimAnswer replayed checkRoom checkGoOn goOnSchedule
+lowest-goes-on-illegally S = (refl, refl, refl, refl, refl)
+lowest-goes-on-illegally SE = (refl, refl, refl, refl, refl)

@@ -8,6 +8,7 @@ use Rattle.zsrm.proofs.c.zsrm_claim.Reads as zsrm-claim
 use Rattle.zsrm.proofs.c.zsrm_run.Reads as zsrm-run
 use Rattle.zsrm.proofs.claims.claim.Reads as claim
 use Rattle.zsrm.proofs.record.Record.fresh.Reads as fresh
+use Rattle.zsrm.proofs.record.Record.go_on.Reads as go-on
 use Rattle.zsrm.proofs.record.Record.step.Reads as step
 use Rattle.zsrm.proofs.judging.response.Reads as response
 use Rattle.zsrm.proofs.judging.verdict.Reads as verdict
@@ -20,6 +21,9 @@ fresh-one κs a r s e f p q = p ∙ sym q
 
 pub step-one : (κs : Lfts 2) (a : _) (r s : _) (e f : _) → step.Learnt κs a r e → step.Learnt κs a s f → r ≡ s
 step-one κs a r s e f p q = p ∙ sym q
+
+pub go-on-one : (κs : Lfts 3) (a : _) (r s : _) (e f : _) → go-on.Learnt κs a r e → go-on.Learnt κs a s f → (r ≡ s) × (now (e .1 .1 .1 .1 .1 .1 .0) ≡ now (f .1 .1 .1 .1 .1 .1 .0))
+go-on-one κs a r s e f p q = (p .0 ∙ sym (q .0), p .1 ∙ sym (q .1))
 
 pub run-one : (κs : Lfts 3) (a : _) (r s : _) (e f : _) → run.Learnt κs a r e → run.Learnt κs a s f → (r ≡ s) × (now (e .1 .1 .1 .1 .1 .0) ≡ now (f .1 .1 .1 .1 .1 .0))
 run-one κs a r s e f p q = (p .0 ∙ sym (q .0), p .1 ∙ sym (q .1))

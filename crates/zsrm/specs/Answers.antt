@@ -17,9 +17,9 @@ use Rattle.zsrm.specs.declared.answers.Witness.{Witness}
 use Rattle.bits.specs.Below.{listFrom}
 use Rattle.zsrm.specs.Given.{Given}
 use Rattle.tables.specs.Refusals.{before, checkLists, check9, check10, check13, unless}
-use Rattle.zsrm.specs.Record.{check11, check12, blank, fresh, consistent}
+use Rattle.zsrm.specs.Record.{check11, check12, checkRoom, blank, fresh, consistent}
 use Rattle.zsrm.specs.Tick.{choice, readyWord, readyCount, endedWord, advanced}
-use Rattle.zsrm.specs.Run.{runEntries, runRecord}
+use Rattle.zsrm.specs.Run.{entriesBy, finalBy, runEntries, runRecord}
 use Rattle.zsrm.specs.Legal.{claim}
 use Rattle.zsrm.specs.Verdict.{Part, emptyPart, part, verdict, witness}
 use Rattle.tables.specs.Tables.{Lists, lists}
@@ -52,8 +52,8 @@ stepped g tie r =
 unfoldable pub freshAnswer : List ℕ → List ℕ → Ran
 freshAnswer tasks jobs = ran (checkLists (lists tasks jobs)) (fresh jobs)
 
--- The checks, in the order of their numbers: lists 2 to 8; step 11, 12; run and claim 9, 10; verdict 11, 13; witness 9, 10, 13. Of a
--- schedule the number of its entries is checked.
+-- The checks, in the order of their numbers: lists 2 to 8; step 11, 12; going on 10, 11, 12; run and claim 9, 10; verdict 11, 13; witness
+-- 9, 10, 13. Of a schedule the number of its entries is checked.
 unfoldable pub checkSchedule : Lists → ℕ → ℕ → Outcome
 checkSchedule l horizon entries = before (checkLists l) (before (check9 horizon) (check10 entries horizon))
 
@@ -62,6 +62,10 @@ checkWitness l horizon entries j = before (checkSchedule l horizon entries) (che
 
 unfoldable pub checkStep : Given → Record → Outcome
 checkStep g r = before (checkLists (g .lists)) (before (check11 (consistent g r)) (check12 (r .tick)))
+
+unfoldable pub checkGoOn : Given → Record → ℕ → ℕ → Outcome
+checkGoOn g r ticks entries =
+    before (checkLists (g .lists)) (before (check10 entries ticks) (before (check11 (consistent g r)) (checkRoom (r .tick) ticks)))
 
 unfoldable pub checkVerdict : Given → Record → ℕ → Outcome
 checkVerdict g r j = before (checkLists (g .lists)) (before (check11 (consistent g r)) (check13 (g .lists .jobs) j))
@@ -82,6 +86,14 @@ module _ (g : Given) where
   -- what the lent schedule holds after a run: its own entries, or what it held
   unfoldable pub runSchedule : Tie → ℕ → List ℕ → List ℕ
   runSchedule tie horizon schedule = unless (checkSchedule (g .lists) horizon (length schedule)) (λ number place. schedule) (runEntries g tie horizon)
+
+  -- Longer planning by parts: from a record that was saved, as many ticks on as are asked for. 9 is not given here.
+  unfoldable pub goOnAnswer : Tie → Record → ℕ → List ℕ → Ran
+  goOnAnswer tie r ticks schedule = ran (checkGoOn g r ticks (length schedule)) (finalBy g (choice g tie) r ticks)
+
+  -- what the lent schedule holds afterwards: the entries of those ticks, or what it held
+  unfoldable pub goOnSchedule : Tie → Record → ℕ → List ℕ → List ℕ
+  goOnSchedule tie r ticks schedule = unless (checkGoOn g r ticks (length schedule)) (λ number place. schedule) (entriesBy g (choice g tie) r ticks)
 
   unfoldable pub claimAnswer : ℕ → List ℕ → Claim
   claimAnswer horizon schedule = unless (checkSchedule (g .lists) horizon (length schedule)) claims.Refused (claim g schedule)

@@ -103,3 +103,7 @@ check11 isConsistent = refuse (not isConsistent) 11 0
 -- 12: a step is asked at tick 16,384
 unfoldable pub check12 : ℕ → Outcome
 check12 tick = refuse (eqb tick 16384) 12 0
+
+-- 12 where a number of ticks is asked for: t plus that number passes 16,384, so at tick 16,384 asking for 0 ticks is no refusal
+unfoldable pub checkRoom : ℕ → ℕ → Outcome
+checkRoom tick ticks = refuse (ltb 16384 (tick + ticks)) 12 0

@@ -5,7 +5,7 @@ use crate::record::Record;
 use crate::record::blank;
 use tables::Outcome;
 
-// The answer of a fresh record and of a run.
+// The answer of a fresh record, of a run, and of going on.
 pub struct Ran {
     pub outcome: Outcome,
     pub record: Record,

@@ -3,7 +3,7 @@
 ghost use mathlib.Core.Path.{_≡_};
 ghost use mathlib.Core.Bool.{_&&_};
 ghost use Rattle.tables.specs.Tables.{arrival, execution};
-ghost use Rattle.zsrm.specs.Record.{arrived, blank, freshPlace, fresh, soundPlace, accounted, soundPrevious, consistent, check11, check12};
+ghost use Rattle.zsrm.specs.Record.{arrived, blank, freshPlace, fresh, soundPlace, accounted, soundPrevious, consistent, check11, check12, checkRoom};
 ghost use Rattle.zsrm.specs.Given.{isSE, given};
 ghost use Rattle.zsrm.specs.Code.Next.{openingOf};
 use crate::mode::Mode;
@@ -195,4 +195,11 @@ pub(crate) fn check12(tick: u32) -> Outcome
     ensures { λ r. ⌜ r ≡ check12 tick ⌝ }
 {
     refuse(tick == 16384, 12, 0)
+}
+
+// 12 where a number of ticks is asked for: they would pass tick 16,384; in 64 bits, as any number may be asked for.
+pub(crate) fn check_room(tick: u32, ticks: u32) -> Outcome
+    ensures { λ r. ⌜ r ≡ checkRoom tick ticks ⌝ }
+{
+    refuse(16384 < (tick as u64) + (ticks as u64), 12, 0)
 }

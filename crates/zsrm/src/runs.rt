@@ -8,7 +8,7 @@ ghost use Rattle.tables.specs.Refusals.{checkLists};
 ghost use Rattle.zsrm.specs.Record.{consistent};
 ghost use Rattle.zsrm.specs.Run.{entriesBy, finalBy};
 ghost use Rattle.zsrm.specs.Given.{given};
-ghost use Rattle.zsrm.specs.Answers.{checkSchedule, runAnswer, runSchedule};
+ghost use Rattle.zsrm.specs.Answers.{checkGoOn, checkSchedule, goOnAnswer, goOnSchedule, runAnswer, runSchedule};
 ghost use Rattle.tables.specs.Tables.{lists};
 ghost use Rattle.zsrm.specs.Tick.{choice};
 use crate::answers::Ran;
@@ -16,7 +16,10 @@ use crate::answers::or_blank;
 use crate::mode::Mode;
 use crate::record::Record;
 use crate::record::blank;
+use crate::record::check_room;
+use crate::record::check11;
 use crate::record::fresh_record;
+use crate::record::is_consistent;
 use crate::tie::Tie;
 use tables::Outcome;
 use tables::before;
@@ -79,5 +82,50 @@ pub fn run(
             or_blank(Outcome::Done, record)
         }
         Outcome::Refused(number, place) => or_blank(Outcome::Refused(number, place), blank()),
+    }
+}
+
+// What going on checks of its input: 2 to 8, 10, 11, 12.
+fn check_go_on(
+    rec: Record,
+    mode: Mode,
+    tasks: &[u32],
+    jobs: &[u32],
+    ticks: u32,
+    entries: usize,
+) -> Outcome
+    ensures { λ r. ⌜ r ≡ checkGoOn (given mode (now (tasks .entry)) (now (jobs .entry))) rec ticks entries ⌝ }
+{
+    let consistent = check11(is_consistent(rec, mode, tasks, jobs));
+    let rest = before(consistent, check_room(rec.tick, ticks));
+    before(
+        check_lists(tasks, jobs),
+        before(check10(entries, ticks), rest),
+    )
+}
+
+impl Record {
+    // Our run from this record on, for as many ticks as are asked for, its entries written into the caller's list; refusals 2 to 8, 10
+    // to 12, the list then keeping its entries.
+    pub fn go_on(
+        self,
+        mode: Mode,
+        tie: Tie,
+        tasks: &[u32],
+        jobs: &[u32],
+        ticks: u32,
+        schedule: &mut [u16],
+    ) -> Ran
+        ensures answers { λ r. ⌜ r ≡ goOnAnswer (given mode (now (tasks .entry)) (now (jobs .entry))) tie self ticks (now (schedule .entry)) ⌝ }
+        ensures writes { λ r. ⌜ now (schedule .exit) ≡ goOnSchedule (given mode (now (tasks .entry)) (now (jobs .entry))) tie self ticks (now (schedule .entry)) ⌝ }
+    {
+        let checked = check_go_on(self, mode, tasks, jobs, ticks, schedule.len());
+        match checked {
+            Outcome::Done => {
+                let record = run_from(self, mode, tie, tasks, jobs, schedule);
+                or_blank(Outcome::Done, record)
+            }
+            Outcome::Refused(number, place) => or_blank(Outcome::Refused(number, place), blank()),
+        }
     }
 }

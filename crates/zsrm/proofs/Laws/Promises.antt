@@ -61,15 +61,17 @@ step-stays g r is l c = steps-entry g Stay r (stepAnswer g Stay r) is .0 ∙ cho
 
 -- so is each of a run's
 module _ (g : Given) (ok : checkLists (g .lists) ≡ Done) (tie : Tie) where
-  going : (n : ℕ) → n ≤ 16384 → Going g (choice g tie) (fresh (g .lists .jobs)) (stepsFrom g tie (fresh (g .lists .jobs)) n) n
+  pub going-from : (start : Record) → consistent g start ≡ true → (n : ℕ) → start .tick + n ≤ 16384 → Going g (choice g tie) start (stepsFrom g tie start n) n
   unfolding stepsFrom
-  going zero b = going-none g (choice g tie) (fresh (g .lists .jobs)) (fresh-consistent g)
-  going (suc n) b =
-      let w = going n (omega arith) in
-      let t = tick-fresh (g .lists .jobs) in
-      let r = stepsFrom g tie (fresh (g .lists .jobs)) n in
+  going-from start sound zero b = going-none g (choice g tie) start sound
+  going-from start sound (suc n) b =
+      let w = going-from start sound n (omega arith) in
+      let r = stepsFrom g tie start n in
       let s = steps-entry g tie r (stepAnswer g tie r) (step-taken g tie r ok (w .sound) (omega (arith, w .time))) in
-      rw add-one at (going-more g (choice g tie) (fresh (g .lists .jobs)) r (stepAnswer g tie r .«record») n w (omega arith) (choice-may g tie r) (s .1))
+      rw add-one at (going-more g (choice g tie) start r (stepAnswer g tie r .«record») n w (omega arith) (choice-may g tie r) (s .1))
+
+  going : (n : ℕ) → n ≤ 16384 → Going g (choice g tie) (fresh (g .lists .jobs)) (stepsFrom g tie (fresh (g .lists .jobs)) n) n
+  going n b = going-from (fresh (g .lists .jobs)) (fresh-consistent g) n (rw tick-fresh (omega arith))
 
 -- the entry that a run takes in tick t
 getD-entries : (g : Given) (pick : Record → ℕ) (r : Record) (n t : ℕ) → t < n → getD (entriesBy g pick r n) t idle ≡ pick (finalBy g pick r t)

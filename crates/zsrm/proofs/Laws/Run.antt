@@ -59,7 +59,7 @@ module _ (g : Given) where
         (run-legal n (advanced g r (pick r)) (pick r) (rw tick-advanced (omega arith))
         (advanced-consistent g r (pick r) (omega arith) (s .takes r) sound) (next-legal r sound))
 
-    fresh-legal : legalEntry g (fresh (g .lists .jobs)) idle (pick (fresh (g .lists .jobs))) ≡ true
+    pub fresh-legal : legalEntry g (fresh (g .lists .jobs)) idle (pick (fresh (g .lists .jobs))) ≡ true
     unfolding legalEntry
     fresh-legal = and-true (s .takes (fresh (g .lists .jobs))) (or-left _ (or-left _ (eq-eqb (fresh (g .lists .jobs) .tick) 0 (tick-fresh (g .lists .jobs)))))
 
@@ -69,7 +69,7 @@ module _ (g : Given) where
   -- our run's choice is one
   module _ (few : jobCount (g .lists .jobs) ≤ 64) where
     -- an entry that could run is still a candidate, or there is still none, so Stay goes on with it
-    stay-goes-on : (r : Record) (e : ℕ) → candidateOrIdle g r e ≡ true → consistent g r ≡ true → schedulingInstant g (advanced g r e) e ≡ false
+    pub stay-goes-on : (r : Record) (e : ℕ) → candidateOrIdle g r e ≡ true → consistent g r ≡ true → schedulingInstant g (advanced g r e) e ≡ false
         → choice g Stay (advanced g r e) ≡ e
     unfolding someJob
     stay-goes-on r e may sound still = ⊎-elim job none (runs-or-idle g r e may)
