@@ -2,6 +2,8 @@
 use crate::altered::altered;
 use crate::claims::try_claims;
 use crate::damage::damaged;
+use crate::day::a_day;
+use crate::day::try_day;
 use crate::draw::draw;
 use crate::inputs::Input;
 use crate::inputs::long;
@@ -47,6 +49,8 @@ const ALTERED: u32 = 5;
 
 const ALTERED_ALL_OVER: u32 = 6;
 
+const PLANTER: u32 = 7;
+
 fn title(kind: u32) {
     match kind {
         SMALL => text(b"small"),
@@ -55,7 +59,8 @@ fn title(kind: u32) {
         DAMAGED => text(b"damaged"),
         TWICE_DAMAGED => text(b"twice damaged"),
         ALTERED => text(b"altered records"),
-        _ => text(b"records altered all over"),
+        ALTERED_ALL_OVER => text(b"records altered all over"),
+        _ => text(b"days of the planter"),
     }
 }
 
@@ -70,6 +75,9 @@ fn how_many(kind: u32) -> u32 {
 }
 
 fn input_of(kind: u32, trial: u32, se: bool) -> Input {
+    if kind == PLANTER {
+        return a_day(trial, se);
+    }
     let size = if kind == LONG {
         long(trial)
     } else {
@@ -126,6 +134,8 @@ fn try_case(t: &mut Tally, kind: u32, case: Case, tasks: &[u32], jobs: &[u32]) {
             jobs.len() / 48 * 2
         };
         try_input(t, case, tasks, jobs, between);
+    } else if kind == PLANTER {
+        try_day(t, case, tasks, jobs);
     } else {
         try_altered(t, case, tasks, jobs, kind == ALTERED_ALL_OVER);
     }
@@ -185,7 +195,7 @@ fn group(sum: &mut Tally, kind: u32, se: bool) {
 // Every group in both modes, and the sum of them all.
 pub(crate) fn all() {
     let mut sum = nothing();
-    for kind in 0..7 {
+    for kind in 0..8 {
         group(&mut sum, kind, false);
         group(&mut sum, kind, true);
     }

@@ -207,8 +207,8 @@ fn horizon(trial: u32, last: u32, work: u32, most: u32) -> u32 {
     least(last % 65536 + draw(trial, 7, work % 65536 + 8), most)
 }
 
-pub(crate) fn make_input(trial: u32, se: bool, size: Size) -> Input {
-    let tasks = make_tasks(trial, size);
+// Jobs of a table's tasks, so many of them as the size says, and a horizon.
+pub(crate) fn make_day(tasks: List, trial: u32, se: bool, size: Size) -> Input {
     let made = make_jobs(tasks, trial, size);
     let jobs = made.jobs;
     let h = horizon(trial, made.last, made.work, size.horizon);
@@ -219,6 +219,10 @@ pub(crate) fn make_input(trial: u32, se: bool, size: Size) -> Input {
         tasks,
         jobs,
     }
+}
+
+pub(crate) fn make_input(trial: u32, se: bool, size: Size) -> Input {
+    make_day(make_tasks(trial, size), trial, se, size)
 }
 
 // Up to 5 tasks and 12 jobs; or the most that is allowed, 16 tasks and 64 jobs.

@@ -70,6 +70,19 @@ impl List {
     }
 }
 
+// A list with the same numbers, as far as there is room.
+pub(crate) fn list_of(numbers: &[u32]) -> List {
+    let n = numbers.len();
+    let mut list = List {
+        at: [0; 224],
+        len: 0,
+    };
+    for i in 0..n {
+        list = list.push(at(numbers, i));
+    }
+    list
+}
+
 pub(crate) fn no_line() -> Line {
     [KEPT; 16384]
 }

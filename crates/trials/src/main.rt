@@ -4,6 +4,7 @@ mod altered;
 mod answers;
 mod claims;
 mod damage;
+mod day;
 mod draw;
 mod flight;
 mod groups;

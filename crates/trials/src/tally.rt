@@ -9,7 +9,7 @@ use crate::list::Case;
 use crate::list::at;
 use crate::list::entry_at;
 
-pub(crate) type Tally = [u32; 576];
+pub(crate) type Tally = [u32; 704];
 
 pub(crate) const INPUTS: usize = 0;
 
@@ -39,6 +39,14 @@ pub(crate) const GO_ON: usize = 512;
 
 pub(crate) const PARTS: usize = 544;
 
+pub(crate) const DAY: usize = 576;
+
+pub(crate) const PROMISED: usize = 608;
+
+pub(crate) const ADMIT: usize = 640;
+
+pub(crate) const DAY_VERDICT: usize = 672;
+
 // What is counted beside the answers.
 pub(crate) const IDLE_TICKS: usize = 33;
 
@@ -58,20 +66,24 @@ pub(crate) const AFTER: usize = 100;
 
 pub(crate) const NO_TICK_ON: usize = 513;
 
+pub(crate) const CHANGED: usize = 641;
+
+pub(crate) const TO_ENDED: usize = 642;
+
 pub(crate) const UNLIKE_OURS: usize = 2;
 
 const MADE: usize = 31;
 
 pub(crate) fn nothing() -> Tally {
-    [0; 576]
+    [0; 704]
 }
 
 pub(crate) fn count(t: &Tally, what: usize) -> u32 {
-    if what < 576 { t[what] } else { 0 }
+    if what < 704 { t[what] } else { 0 }
 }
 
 pub(crate) fn add(t: &mut Tally, what: usize, by: u32) {
-    if what < 576 {
+    if what < 704 {
         t[what] = std::num::wrapping_add_u32(t[what], by);
     }
 }
@@ -101,8 +113,8 @@ fn class(answer: u64) -> usize {
 // A call was compared: what it names, a job, a tick or how many parts, what was expected, and what came.
 pub(crate) fn note(t: &mut Tally, call: usize, number: u32, want: u64, got: u64) {
     add(t, CALLS, 1);
-    add(t, call % 576 + MADE, 1);
-    add(t, call % 576 + class(want) % 32, 1);
+    add(t, call % 704 + MADE, 1);
+    add(t, call % 704 + class(want) % 32, 1);
     if want != got {
         add(t, DIFFERENCES, 1);
         difference(call / 32, number, want, got);
@@ -137,7 +149,7 @@ fn refused(number: usize, times: u32) {
 
 // What the words name, so many counts, and the refusals that came; nothing of a call that was not made.
 fn line(t: &Tally, words: &[u8], call: usize, n: usize) {
-    let first = call % 576;
+    let first = call % 704;
     if count(t, first + MADE) == 0 {
         return;
     }
@@ -217,6 +229,25 @@ pub(crate) fn report(t: &Tally) {
     );
     line(t, b"  going on done, by no tick:", GO_ON, 2);
     line(t, b"  run in parts, of them in 2, 3, 4, 5 parts:", PARTS, 5);
+    line(t, b"  day run or change as it must be:", DAY, 1);
+    line(
+        t,
+        b"  down-force job due, and met, without a tick suspended:",
+        PROMISED,
+        1,
+    );
+    line(
+        t,
+        b"  admission done, verdicts that it changed, of them to ended:",
+        ADMIT,
+        3,
+    );
+    line(
+        t,
+        b"  planter's verdict met, ended, open, late by at least, by exactly:",
+        DAY_VERDICT,
+        5,
+    );
 }
 
 fn numbers(name: &[u8], list: &[u32]) {

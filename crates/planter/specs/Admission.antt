@@ -1,0 +1,50 @@
+-- Document 02, Seven, a day's admission: offered one more job, whether the list with that job appended is accepted, and how every verdict at
+-- the horizon changes.
+use Prim.Native.Nat.{ℕ}
+use mathlib.Core.Bool.{cond}
+use mathlib.Core.List.{List, [], _∷_, _++_}
+use lib.Dec.{ltb}
+use lib.ListN.{replicate}
+use Rattle.bits.specs.Below.{listFrom}
+use Rattle.tables.specs.declared.outcome.Outcome.the-variants as outcomes
+use Rattle.tables.specs.Refusals.{unless}
+use Rattle.tables.specs.Tables.{jobCount, lists}
+use Rattle.zsrm.specs.declared.answers.Verdict.{Verdict}
+use Rattle.zsrm.specs.declared.answers.Verdict.the-variants as verdicts
+use Rattle.zsrm.specs.declared.mode.Mode.{Mode}
+use Rattle.zsrm.specs.declared.tie.Tie.the-variants.{Stay}
+use Rattle.zsrm.specs.Answers.{checkSchedule, verdictAnswer}
+use Rattle.zsrm.specs.Run.{runRecord}
+use Rattle.planter.specs.declared.admission.Admission.{Admission}
+use Rattle.planter.specs.declared.admission.Change.{Change}
+use Rattle.planter.specs.Table.{planter, table}
+
+-- The list with the offered job appended.
+unfoldable pub appended : List ℕ → ℕ → ℕ → ℕ → List ℕ
+appended jobs task arrival execution = jobs ++ (task ∷ arrival ∷ execution ∷ [])
+
+-- The library's verdict on job j at the horizon, where our run of the job list ends.
+unfoldable pub verdictIn : Mode → List ℕ → ℕ → ℕ → Verdict
+verdictIn mode jobs horizon j = verdictAnswer (planter mode jobs) (runRecord (planter mode jobs) Stay horizon) j
+
+abbrev pub blankChange : Change
+blankChange = record { before = verdicts.Refused 0 0; after = verdicts.Refused 0 0 }
+
+-- Of each job of the longer list the verdict without and with the offered job; past that list's end both are blank.
+unfoldable pub changeAt : Mode → List ℕ → List ℕ → ℕ → ℕ → Change
+changeAt mode jobs longer horizon j =
+    cond (ltb j (jobCount longer)) (record { before = verdictIn mode jobs horizon j; after = verdictIn mode longer horizon j }) blankChange
+
+-- A refused admission counts no job, and every change is blank.
+unfoldable pub refusedAdmission : ℕ → ℕ → Admission
+refusedAdmission number place = record { outcome = outcomes.Refused number place; count = 0; changes = replicate 64 blankChange }
+
+-- From a list to a longer one. It is refused with exactly what a run of the longer list is refused with, whose schedule is as long as the
+-- horizon.
+unfoldable pub admission : Mode → List ℕ → List ℕ → ℕ → Admission
+admission mode jobs longer horizon =
+    unless (checkSchedule (lists table longer) horizon horizon) refusedAdmission
+    (record { outcome = outcomes.Done; count = jobCount longer; changes = listFrom 0 64 (changeAt mode jobs longer horizon) })
+
+unfoldable pub admitAnswer : Mode → List ℕ → ℕ → ℕ → ℕ → ℕ → Admission
+admitAnswer mode jobs horizon task arrival execution = admission mode jobs (appended jobs task arrival execution) horizon
