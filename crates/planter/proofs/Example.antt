@@ -1,5 +1,5 @@
 -- A day with one job of each task, and a depth job offered at 10: what `admit` answers, by computation. Down-force runs over, 8 ticks instead
--- of 4, which is where the modes part: in S the log stays open, in SE it is ended, and so is the offered job.
+-- of 4, which is where the modes part: in S the log is still open at 20, in SE it is ended, and so is the offered job.
 use Prim.Native.Nat.{ℕ}
 use mathlib.Core.List.{List, [], _++_, _∷_}
 use mathlib.Core.Path.{refl, _≡_}

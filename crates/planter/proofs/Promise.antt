@@ -143,7 +143,7 @@ module _ (mode : Mode) (jobs : List ℕ) (j : ℕ) (l : j < jobCount jobs) (its 
           ap (λ (x : Record). verdictSaid (verdictAnswer (planter mode jobs) x j)) (p .at-its-end)
           ∙ library.meets (planter mode jobs) horizon (p .schedule) (p .legal-throughout) downForce down-force-topmost j l its (omega (arith, due))
 
-      -- .. and so is never late, neither by an exact number nor by at least one.
+      -- .. and so is never late, neither by exactly nor by at least any number.
       pub never-late : (n : ℕ) (isExact : Bool) → verdictSaid (verdictAnswer (planter mode jobs) r j) ≡ late n isExact → ⊥
       never-late n isExact says = let z : _≡_ {A = List ℕ} met (late n isExact) = sym meets ∙ says in let z : _≡_ {A = ℕ} 0 1 = cc in omega arith
 

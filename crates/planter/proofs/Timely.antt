@@ -2,11 +2,12 @@
 --
 -- While a down-force or a depth job is alive, the tick goes to one of the two tasks: down-force is never suspended, depth by down-force alone,
 -- and the log has the lowest priority. Let s be where the stretch of such ticks began that reaches up to now: no job of the two that arrived
--- before s is alive, and every tick since went to one that arrived since. In 20 ticks there arrive at most one down-force job and two depth
--- jobs, with 8 + 2 * 4 ticks of work: a stretch has at most 16 ticks. So a down-force job alive is at most 16 ticks old. A depth job that
--- arrives by s + 8 runs at once, since no down-force job is past zero slack before s + 12; one that arrives later is younger than 8 ticks. A
--- log job has every tick that goes to neither; in the 40 ticks from s on, s the begin of the stretch in which it arrives, those two have at
--- most 32, so that it finishes before they are over.
+-- before s is alive, and every tick since went to one that arrived since. In the 20 ticks from s on there arrive at most one down-force job
+-- and two depth jobs, with 8 + 2 * 4 ticks of work: a stretch has at most 16 ticks. So a down-force job alive is at most 16 ticks old. A depth
+-- job that arrives by s + 8 runs at once and is through by s + 12: no down-force job is past zero slack before that, and depth jobs lie 10
+-- apart; one that arrives later is, while alive, younger than 8 ticks. A log job has every tick that goes to neither; of the 40 ticks from s
+-- on, s being the start of the stretch in which it arrives, the two have at most 32, so that it has finished, or was ended, before they are
+-- over.
 use Prim.Native.Nat.{_+_, _<_, suc, zero, ℕ, _≤_}
 use mathlib.Core.Bool.{Bool, _&&_, cond, false, false≢true, true}
 use mathlib.Core.List.{List}
@@ -24,6 +25,7 @@ use Rattle.tables.specs.Refusals.{checkJobs}
 use Rattle.tables.specs.Tables.{arrival, criticality, deadline, deadlineInstant, execution, idle, jobCount, jobCriticality, jobPriority, offset, overload, period, priority, taskCount, taskOf, zeroSlackInstant}
 use Rattle.tables.proofs.Laws.Accepted.{apart, few-jobs, job}
 use Rattle.zsrm.specs.declared.mode.Mode.{Mode}
+use Rattle.zsrm.specs.declared.mode.Mode.the-variants.{SE}
 use Rattle.zsrm.specs.declared.record.Record.{Record}
 use Rattle.zsrm.specs.declared.record.Standing.{Standing}
 use Rattle.zsrm.specs.declared.record.Standing.the-variants.{Ended, Finished, NotArrived, Unfinished}
@@ -34,7 +36,7 @@ use Rattle.zsrm.specs.Run.{recordAt, replay, replayed}
 use Rattle.zsrm.specs.Tick.{advanced, alive, candidate, eligible, pastZeroSlack, someJob, standingAfter, suspended, unfinished}
 use Rattle.zsrm.proofs.Laws.Consistent.{Sound, advanced-consistent, fresh-consistent, sound-at}
 use Rattle.zsrm.proofs.Laws.Places.{alive-unfinished, done-advanced, opens, standing-advanced, standing-fresh, tick-advanced, tick-fresh}
-use Rattle.zsrm.proofs.Laws.Replay.{AllLegal, kept-at, legal-may}
+use Rattle.zsrm.proofs.Laws.Replay.{AllLegal, kept-at, legal-may, tick-replay}
 use Rattle.zsrm.proofs.Laws.Tick.{candidate-eligible, candidate-exactly, done-idle, done-ran, eligible-alive, eligible-exactly, goes-on, past-exactly, runs-or-idle, some-candidate, suspended-exactly}
 use Rattle.planter.specs.Table.{depth, downForce, log, planter, table}
 
@@ -75,7 +77,7 @@ task-cases P f d l (suc (suc zero)) h = l
 task-cases P f d l (suc (suc (suc k))) h = absurd (omega arith)
 
 -- a finishing instant is not after the deadline
-abbrev pub InTime : ℕ → Standing → Type 0
+abbrev InTime : ℕ → Standing → Type 0
 InTime due NotArrived = Unit {0}
 InTime due Unfinished = Unit {0}
 InTime due (Finished f) = f ≤ due
@@ -162,7 +164,7 @@ module _ (mode : Mode) (jobs : List ℕ) (ok : checkJobs table jobs ≡ Done) wh
           λ j h same. subst (λ (x : ℕ). arrival jobs j + period table x ≤ arrival jobs n) its (apart table jobs ok j n h (omega arith) (same ∙ sym its)) in
           omega (arith, its-most, ih m (λ j h same some. omega (arith, last, gap j h same)))
 
-  -- Down-force has at most 8 ticks in each 20, depth 4 in each 10.
+  -- Of the jobs that arrived from s on, down-force's have had at most 8 ticks for each 20 since s, depth's 4 for each 10.
   bounded : (r : Record) → consistent g r ≡ true → (s m p : ℕ) → r .tick ≤ s + times m 20 → r .tick ≤ s + times p 10 → ticksOf downForce s r + ticksOf depth s r ≤ times m 8 + times p 4
   unfolding ticksOf period overload
   bounded r c s m p first second =
@@ -536,16 +538,32 @@ module _ (mode : Mode) (jobs : List ℕ) (ok : checkJobs table jobs ≡ Done) wh
               timely = timely-on;
             }
 
-  -- At the end of a legal schedule: a job that has finished did so by its deadline, and one that is alive is not yet due.
-  pub record OnTime (r : Record) (j : ℕ) : Type 0 where
-    pub sound : consistent g r ≡ true
-    pub finished : InTime (deadlineInstant (g .lists) j) (standingAt r j)
-    pub pending : alive r j ≡ true → r .tick < deadlineInstant (g .lists) j
+  -- At the end of a legal schedule: a job that has finished did so by its deadline, one that has not is not yet due, and only SE ends jobs.
+  abbrev pub Timed : ℕ → ℕ → Standing → Type 0
+  Timed t due NotArrived = t < due
+  Timed t due Unfinished = t < due
+  Timed t due (Finished f) = f ≤ due
+  Timed t due (Ended e) = mode ≡ SE
 
-  pub always-on-time : (es : List ℕ) → length es ≤ 16384 → AllLegal g (fresh jobs) idle es → (j : ℕ) → j < jobCount jobs → OnTime (replayed g es) j
-  unfolding replayed recordAt
-  always-on-time es b c j l =
-      let end : Good (replay g (fresh jobs) es) =
-      rw take-length at
-      (kept-at g 16384 Good (λ r p e u v w. good-on r w e u (legal-may g r p e v)) (fresh jobs) idle es (rw tick-fresh (omega arith)) c fresh-good (length es)) in
-      record { sound = end .sound; finished = end .timely j l; pending = before-due (replay g (fresh jobs) es) end j l }
+  pub record OnTime (r : Record) (horizon j : ℕ) : Type 0 where
+    pub sound : consistent g r ≡ true
+    pub time : r .tick ≡ horizon
+    pub timed : Timed horizon (deadlineInstant (g .lists) j) (standingAt r j)
+
+  pub always-on-time : (es : List ℕ) → length es ≤ 16384 → AllLegal g (fresh jobs) idle es → (j : ℕ) → j < jobCount jobs → OnTime (replayed g es) (length es) j
+  unfolding replayed recordAt deadlineInstant alive
+  always-on-time es b c j l = record { sound = end .sound; time = at-end; timed = go (standingAt (replay g (fresh jobs) es) j) refl (sound-at g (replay g (fresh jobs) es) (end .sound) j (small j l)) (end .timely j l) }
+    where
+      end : Good (replay g (fresh jobs) es)
+      end =
+          rw take-length at
+          (kept-at g 16384 Good (λ r p e u v w. good-on r w e u (legal-may g r p e v)) (fresh jobs) idle es (rw tick-fresh (omega arith)) c fresh-good (length es))
+
+      at-end : (replay g (fresh jobs) es) .tick ≡ length es
+      at-end = omega (arith, tick-replay g (fresh jobs) es, tick-fresh jobs)
+
+      go : (x : Standing) → standingAt (replay g (fresh jobs) es) j ≡ x → Sound g ((replay g (fresh jobs) es) .tick) j (doneAt (replay g (fresh jobs) es) j) x → InTime (deadlineInstant (g .lists) j) x → Timed (length es) (deadlineInstant (g .lists) j) x
+      go NotArrived q w t = omega (arith, w .away l, at-end)
+      go Unfinished q w t = omega (arith, before-due (replay g (fresh jobs) es) end j l (ap unfinished q), at-end)
+      go (Finished f) q w t = t
+      go (Ended e) q w t = w .se
