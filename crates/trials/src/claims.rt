@@ -182,7 +182,7 @@ fn try_claim(
     note(t, call, 0, claim_answer(key, replay.bad), got);
     try_witnesses(t, case, tasks, jobs, line, replay, key, between);
     if alike(line, own, 0) == false {
-        add(t, call % 512 + UNLIKE_OURS, 1);
+        add(t, call % 1600 + UNLIKE_OURS, 1);
     }
     if before < count(t, DIFFERENCES) {
         print_line(line);
@@ -222,7 +222,7 @@ pub(crate) fn try_claims(
             };
             fly(case.se, tasks, jobs, ticks, way, &mut line);
             change(&mut line, kind, case.trial, n, ticks);
-            let call = CLAIM + 32 * ((kind % 8) as usize);
+            let call = CLAIM + 64 * ((kind % 8) as usize);
             try_claim(t, case, tasks, jobs, &line, own, call, between);
         }
     }

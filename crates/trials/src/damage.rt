@@ -31,7 +31,7 @@ fn beyond(trial: u32, place: u32, most: u32) -> u32 {
 }
 
 // The last number goes, or all do, or there are one or two more, or too many.
-fn wrong_length(list: List, trial: u32, place: u32, too_many: usize) -> List {
+pub(crate) fn wrong_length(list: List, trial: u32, place: u32, too_many: usize) -> List {
     let kind = draw(trial, place, 5);
     let n = list.len;
     let mut next = list;
@@ -54,7 +54,7 @@ fn wrong_length(list: List, trial: u32, place: u32, too_many: usize) -> List {
 }
 
 // One field of a task out of its range, or out of its order.
-fn wrong_task(tasks: List, trial: u32, place: u32) -> List
+pub(crate) fn wrong_task(tasks: List, trial: u32, place: u32) -> List
     requires { ⌜ place < 50000 ⌝ }
 {
     let k = draw(trial, place, ((tasks.len / 7) % 64) as u32) as usize;
@@ -93,7 +93,7 @@ fn some_row(jobs: List, trial: u32, place: u32) -> usize
 }
 
 // A task that is not there, an arrival or an execution time beyond its bound.
-fn wrong_job(jobs: List, tasks: List, trial: u32, place: u32) -> List
+pub(crate) fn wrong_job(jobs: List, tasks: List, trial: u32, place: u32) -> List
     requires { ⌜ place < 50000 ⌝ }
 {
     let row = some_row(jobs, trial, place);
@@ -119,7 +119,7 @@ fn wrong_job(jobs: List, tasks: List, trial: u32, place: u32) -> List
 }
 
 // An arrival before the one above it, or too soon after the task's preceding job.
-fn wrong_arrival(jobs: List, trial: u32, place: u32) -> List
+pub(crate) fn wrong_arrival(jobs: List, trial: u32, place: u32) -> List
     requires { ⌜ place < 50000 ⌝ }
 {
     let row = some_row(jobs, trial, place);

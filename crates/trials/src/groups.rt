@@ -5,6 +5,7 @@ use crate::damage::damaged;
 use crate::day::a_day;
 use crate::day::try_day;
 use crate::draw::draw;
+use crate::evening::try_evening;
 use crate::inputs::Input;
 use crate::inputs::long;
 use crate::inputs::make_input;
@@ -51,6 +52,8 @@ const ALTERED_ALL_OVER: u32 = 6;
 
 const PLANTER: u32 = 7;
 
+const EVENING: u32 = 8;
+
 fn title(kind: u32) {
     match kind {
         SMALL => text(b"small"),
@@ -60,7 +63,8 @@ fn title(kind: u32) {
         TWICE_DAMAGED => text(b"twice damaged"),
         ALTERED => text(b"altered records"),
         ALTERED_ALL_OVER => text(b"records altered all over"),
-        _ => text(b"days of the planter"),
+        PLANTER => text(b"days of the planter"),
+        _ => text(b"evenings"),
     }
 }
 
@@ -136,6 +140,8 @@ fn try_case(t: &mut Tally, kind: u32, case: Case, tasks: &[u32], jobs: &[u32]) {
         try_input(t, case, tasks, jobs, between);
     } else if kind == PLANTER {
         try_day(t, case, tasks, jobs);
+    } else if kind == EVENING {
+        try_evening(t, case, tasks);
     } else {
         try_altered(t, case, tasks, jobs, kind == ALTERED_ALL_OVER);
     }
@@ -168,7 +174,7 @@ fn trial_of(t: &mut Tally, kind: u32, trial: u32, se: bool) {
 
 // The trials of a kind in a mode, each with a number of its own.
 fn trials(t: &mut Tally, kind: u32, se: bool, n: u32) {
-    let even = 200000 * (kind % 8);
+    let even = 200000 * (kind % 16);
     let first = if se { even + 100000 } else { even };
     for i in 0..n {
         trial_of(t, kind, std::num::wrapping_add_u32(first, i), se);
@@ -195,7 +201,7 @@ fn group(sum: &mut Tally, kind: u32, se: bool) {
 // Every group in both modes, and the sum of them all.
 pub(crate) fn all() {
     let mut sum = nothing();
-    for kind in 0..8 {
+    for kind in 0..9 {
         group(&mut sum, kind, false);
         group(&mut sum, kind, true);
     }

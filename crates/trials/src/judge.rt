@@ -71,7 +71,7 @@ fn task_key(tasks: &[u32], k: u32) -> u32 {
     )
 }
 
-fn tasks_key(tasks: &[u32]) -> u32 {
+pub(crate) fn tasks_key(tasks: &[u32]) -> u32 {
     let n = tasks.len();
     let mut key = when((n % 7 != 0) | (n == 0) | (16 < n / 7), TASKS, 2, 0);
     for k in 0..16 {
@@ -111,7 +111,7 @@ fn job_key(seen: Seen, tasks: &[u32], jobs: &[u32], j: usize) -> u32 {
     )
 }
 
-fn jobs_key(tasks: &[u32], jobs: &[u32]) -> u32 {
+pub(crate) fn jobs_key(tasks: &[u32], jobs: &[u32]) -> u32 {
     let n = jobs.len();
     let key = when((n % 3 != 0) | (64 < n / 3), JOBS, 5, 0);
     let mut seen = Seen {

@@ -6,6 +6,7 @@ mod claims;
 mod damage;
 mod day;
 mod draw;
+mod evening;
 mod flight;
 mod groups;
 mod inputs;

@@ -92,20 +92,24 @@ pub(crate) fn taken_up(rec: Record, jobs: &[u32]) -> Sim {
     }
 }
 
-// The simulator before anything has happened.
-pub(crate) fn begin(jobs: &[u32]) -> Sim {
+// A refusal's record.
+pub(crate) fn blank() -> Record {
     let empty = Place {
         done: 0,
         suspended: 0,
         waited: 0,
         standing: Standing::NotArrived,
     };
-    let blank = Record {
+    Record {
         tick: 0,
         previous: IDLE,
         places: [empty; 64],
-    };
-    taken_up(blank, jobs)
+    }
+}
+
+// The simulator before anything has happened.
+pub(crate) fn begin(jobs: &[u32]) -> Sim {
+    taken_up(blank(), jobs)
 }
 
 // Whether a place fits job j: nothing before it has come; then ticks done within its work and the time that there was, all of them

@@ -93,7 +93,7 @@ pub(crate) fn held_jobs(jobs: &[u32], key: u32) -> &[u32] {
     if key == FINE { jobs } else { front(jobs, 0) }
 }
 
-fn lent_run(
+pub(crate) fn lent_run(
     mode: Mode,
     tie: Tie,
     tasks: &[u32],

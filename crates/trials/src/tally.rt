@@ -9,7 +9,7 @@ use crate::list::Case;
 use crate::list::at;
 use crate::list::entry_at;
 
-pub(crate) type Tally = [u32; 704];
+pub(crate) type Tally = [u32; 1600];
 
 pub(crate) const INPUTS: usize = 0;
 
@@ -17,73 +17,81 @@ pub(crate) const CALLS: usize = 1;
 
 pub(crate) const DIFFERENCES: usize = 2;
 
-// Each call has 32 counts: its answers, in the order in which report names them, from 16 on the refusals by their numbers, and at 31 how
+// Each call has 64 counts: its answers, in the order in which report names them, from 32 on the refusals by their numbers, and at 63 how
 // often it was made. The claims have as many for each of their eight kinds.
-pub(crate) const RUN: usize = 32;
+pub(crate) const RUN: usize = 64;
 
-pub(crate) const FRESH: usize = 64;
+pub(crate) const FRESH: usize = 128;
 
-pub(crate) const STEP: usize = 96;
+pub(crate) const STEP: usize = 192;
 
-pub(crate) const VERDICT: usize = 128;
+pub(crate) const VERDICT: usize = 256;
 
-pub(crate) const WITNESS: usize = 160;
+pub(crate) const WITNESS: usize = 320;
 
-pub(crate) const PART: usize = 192;
+pub(crate) const PART: usize = 384;
 
-pub(crate) const CLAIM: usize = 224;
+pub(crate) const CLAIM: usize = 448;
 
-pub(crate) const ALL_VERDICTS: usize = 480;
+pub(crate) const ALL_VERDICTS: usize = 960;
 
-pub(crate) const GO_ON: usize = 512;
+pub(crate) const GO_ON: usize = 1024;
 
-pub(crate) const PARTS: usize = 544;
+pub(crate) const PARTS: usize = 1088;
 
-pub(crate) const DAY: usize = 576;
+pub(crate) const DAY: usize = 1152;
 
-pub(crate) const PROMISED: usize = 608;
+pub(crate) const PROMISED: usize = 1216;
 
-pub(crate) const ADMIT: usize = 640;
+pub(crate) const ADMIT: usize = 1280;
 
-pub(crate) const DAY_VERDICT: usize = 672;
+pub(crate) const DAY_VERDICT: usize = 1344;
+
+pub(crate) const BATCH: usize = 1408;
+
+pub(crate) const BATCH_RUN: usize = 1472;
+
+pub(crate) const BLANK: usize = 1536;
 
 // What is counted beside the answers.
-pub(crate) const IDLE_TICKS: usize = 33;
+pub(crate) const IDLE_TICKS: usize = 65;
 
-pub(crate) const BUSY_TICKS: usize = 34;
+pub(crate) const BUSY_TICKS: usize = 66;
 
-pub(crate) const NO_TICK: usize = 35;
+pub(crate) const NO_TICK: usize = 67;
 
-pub(crate) const LONGEST: usize = 36;
+pub(crate) const LONGEST: usize = 68;
 
-pub(crate) const LATE_TURNS: usize = 37;
+pub(crate) const LATE_TURNS: usize = 69;
 
-pub(crate) const ENDING: usize = 97;
+pub(crate) const ENDING: usize = 193;
 
-pub(crate) const TIES_DIFFER: usize = 98;
+pub(crate) const TIES_DIFFER: usize = 194;
 
-pub(crate) const AFTER: usize = 100;
+pub(crate) const AFTER: usize = 196;
 
-pub(crate) const NO_TICK_ON: usize = 513;
+pub(crate) const NO_TICK_ON: usize = 1025;
 
-pub(crate) const CHANGED: usize = 641;
+pub(crate) const CHANGED: usize = 1281;
 
-pub(crate) const TO_ENDED: usize = 642;
+pub(crate) const TO_ENDED: usize = 1282;
+
+pub(crate) const NO_RUNS: usize = 1409;
 
 pub(crate) const UNLIKE_OURS: usize = 2;
 
-const MADE: usize = 31;
+const MADE: usize = 63;
 
 pub(crate) fn nothing() -> Tally {
-    [0; 704]
+    [0; 1600]
 }
 
 pub(crate) fn count(t: &Tally, what: usize) -> u32 {
-    if what < 704 { t[what] } else { 0 }
+    if what < 1600 { t[what] } else { 0 }
 }
 
 pub(crate) fn add(t: &mut Tally, what: usize, by: u32) {
-    if what < 704 {
+    if what < 1600 {
         t[what] = std::num::wrapping_add_u32(t[what], by);
     }
 }
@@ -92,7 +100,7 @@ pub(crate) fn add(t: &mut Tally, what: usize, by: u32) {
 // fifth, what is outside the sixth.
 fn class(answer: u64) -> usize {
     if REFUSED <= answer {
-        return 16 + ((answer - REFUSED) % 16) as usize;
+        return 32 + ((answer - REFUSED) % 32) as usize;
     }
     if AT_LEAST <= answer {
         return if answer < EXACTLY {
@@ -113,11 +121,11 @@ fn class(answer: u64) -> usize {
 // A call was compared: what it names, a job, a tick or how many parts, what was expected, and what came.
 pub(crate) fn note(t: &mut Tally, call: usize, number: u32, want: u64, got: u64) {
     add(t, CALLS, 1);
-    add(t, call % 704 + MADE, 1);
-    add(t, call % 704 + class(want) % 32, 1);
+    add(t, call % 1600 + MADE, 1);
+    add(t, call % 1600 + class(want) % 64, 1);
     if want != got {
         add(t, DIFFERENCES, 1);
-        difference(call / 32, number, want, got);
+        difference(call / 64, number, want, got);
     }
 }
 
@@ -149,7 +157,7 @@ fn refused(number: usize, times: u32) {
 
 // What the words name, so many counts, and the refusals that came; nothing of a call that was not made.
 fn line(t: &Tally, words: &[u8], call: usize, n: usize) {
-    let first = call % 704;
+    let first = call % 1600;
     if count(t, first + MADE) == 0 {
         return;
     }
@@ -159,8 +167,8 @@ fn line(t: &Tally, words: &[u8], call: usize, n: usize) {
         if k < n {
             say(b" ", times as u64);
         }
-        if 16 < k {
-            refused(k - 16, times);
+        if 32 < k {
+            refused(k - 32, times);
         }
     }
     text(b"\n");
@@ -174,18 +182,18 @@ fn claims(t: &Tally) {
         CLAIM,
         3,
     );
-    line(t, b"  claim of the last of equals:", CLAIM + 32, 3);
-    line(t, b"  claim with jobs exchanged:", CLAIM + 64, 3);
+    line(t, b"  claim of the last of equals:", CLAIM + 64, 3);
+    line(t, b"  claim with jobs exchanged:", CLAIM + 128, 3);
     line(
         t,
         b"  claim with jobs exchanged from a tick on:",
-        CLAIM + 96,
+        CLAIM + 192,
         3,
     );
-    line(t, b"  claim with another job:", CLAIM + 128, 3);
-    line(t, b"  claim with an idle tick:", CLAIM + 160, 3);
-    line(t, b"  claim with no job's number:", CLAIM + 192, 3);
-    line(t, b"  claim with neighbours exchanged:", CLAIM + 224, 3);
+    line(t, b"  claim with another job:", CLAIM + 256, 3);
+    line(t, b"  claim with an idle tick:", CLAIM + 320, 3);
+    line(t, b"  claim with no job's number:", CLAIM + 384, 3);
+    line(t, b"  claim with neighbours exchanged:", CLAIM + 448, 3);
 }
 
 // All that a group counted, or the sum of all.
@@ -248,9 +256,12 @@ pub(crate) fn report(t: &Tally) {
         DAY_VERDICT,
         5,
     );
+    line(t, b"  batch done, of no run:", BATCH, 2);
+    line(t, b"  run of a batch as by itself:", BATCH_RUN, 1);
+    line(t, b"  record of no run, blank:", BLANK, 1);
 }
 
-fn numbers(name: &[u8], list: &[u32]) {
+pub(crate) fn numbers(name: &[u8], list: &[u32]) {
     let n = list.len();
     text(name);
     for i in 0..n {
