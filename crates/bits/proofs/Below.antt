@@ -145,6 +145,45 @@ module _ (f h : ℕ → Bool) where
   count-same zero q = refl
   count-same (suc n) q = ap₂ (λ (b : Bool) (x : ℕ). cond b 1 0 + x) (q n (omega arith)) (count-same n (λ k l. q k (omega arith)))
 
+module _ (f : ℕ → Bool) where
+  pub count-nothing : count 0 f ≡ 0
+  unfolding count
+  count-nothing = refl
+
+  pub count-next : (n : ℕ) → count (suc n) f ≡ cond (f n) 1 0 + count n f
+  unfolding count
+  count-next n = refl
+
+  pub count-most : (n : ℕ) → count n f ≤ n
+  unfolding count
+  count-most zero = omega arith
+  count-most (suc n) = go (f n) (count-most n)
+    where
+      go : (b : Bool) → count n f ≤ n → cond b 1 0 + count n f ≤ suc n
+      go true h = omega arith
+      go false h = omega arith
+
+  pub count-none : (n : ℕ) → ((k : ℕ) → k < n → f k ≡ false) → count n f ≡ 0
+  unfolding count
+  count-none zero h = refl
+  count-none (suc n) h = rw (h n (omega arith), count-none n (λ k l. h k (omega arith)))
+
+  pub count-some : (n k : ℕ) → k < n → f k ≡ true → 0 < count n f
+  unfolding count
+  count-some zero k l h = absurd (not-suc-le-zero l)
+  count-some (suc n) k l h = go (last-or-below n k l) (count-some n k)
+    where
+      go : (k ≡ n) ⊎ (k < n) → (k < n → f k ≡ true → 0 < count n f) → 0 < cond (f n) 1 0 + count n f
+      go (inl e) ih = rw (sym (ap f e) ∙ h) (omega arith)
+      go (inr b) ih = omega (arith, ih b h)
+
+  pub count-parts : (a b : ℕ) → count (a + b) f ≡ count b (λ i. f (a + i)) + count a f
+  unfolding count
+  count-parts a zero = let none : a + 0 ≡ a = omega arith in omega (arith, ap (λ (n : ℕ). count n f) none)
+  count-parts a (suc b) =
+      let next : a + suc b ≡ suc (a + b) = omega arith in
+      ap (λ (n : ℕ). count n f) next ∙ omega (arith, count-parts a b)
+
 module _ {A : Type 0} where
   pub length-listFrom : (i n : ℕ) (f : ℕ → A) → length (listFrom i n f) ≡ n
   unfolding listFrom

@@ -1,9 +1,11 @@
 // The library's answers as numbers, so that they can be compared, counted and printed: each answer of a call its own small number, a part
-// that is shown NUMBERED and its length, a claim that is not legal NUMBERED and its tick, a job that is late AT_LEAST or EXACTLY and by how
-// much, a witness outside the assumption OUTSIDE and the job that it names, a refusal REFUSED, its number and 256 times its place.
+// that is shown NUMBERED and its length, a claim that is not legal NUMBERED and its tick, one that is mended NUMBERED and its first changed
+// tick, a job that is late AT_LEAST or EXACTLY and by how much, a witness outside the assumption OUTSIDE and the job that it names, a
+// refusal REFUSED, its number and 256 times its place.
 ghost use Prim.Native.Nat.{_≤_};
 use crate::leap::STAYING;
 use zsrm::Claim;
+use zsrm::Mended;
 use zsrm::Mode;
 use zsrm::Outcome;
 use zsrm::Standing;
@@ -78,6 +80,23 @@ pub(crate) fn of_claim(claim: Claim) -> u64 {
         Claim::Refused(number, place) => refused(number, place),
         Claim::Legal => LEGAL,
         Claim::NotLegal(t) => NUMBERED + (t as u64),
+    }
+}
+
+// How many entries were changed is compared apart.
+pub(crate) fn of_mended(mended: Mended) -> u64 {
+    match mended {
+        Mended::Refused(number, place) => refused(number, place),
+        Mended::Whole => DONE,
+        Mended::Changed(first, _) => NUMBERED + (first as u64),
+    }
+}
+
+pub(crate) fn changes_of(mended: Mended) -> u32 {
+    match mended {
+        Mended::Refused(_, _) => 0,
+        Mended::Whole => 0,
+        Mended::Changed(_, n) => n,
     }
 }
 

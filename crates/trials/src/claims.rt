@@ -1,5 +1,5 @@
-// Claims, and on each the witnesses and the parts that are shown. The simulator takes the claim by stretches; what it holds at the claim's
-// end decides the rest.
+// Claims, and on each the witnesses, the parts that are shown and what it is mended to. The simulator takes the claim by stretches; what it
+// holds at the claim's end decides the rest.
 use crate::answers::ACCEPTED_ENDED;
 use crate::answers::AT_LEAST;
 use crate::answers::EMPTY;
@@ -35,6 +35,7 @@ use crate::list::less;
 use crate::list::no_line;
 use crate::list::of;
 use crate::list::wide;
+use crate::mends::try_mend;
 use crate::runs::FAR_JOB;
 use crate::runs::alike;
 use crate::runs::verdict_of;
@@ -49,7 +50,8 @@ use crate::tally::count;
 use crate::tally::note;
 use crate::tally::print_line;
 
-fn claim_answer(key: u32, bad: u32) -> u64 {
+// What must be answered to a claim: a refusal, legal, or not legal at a tick.
+pub(crate) fn claim_answer(key: u32, bad: u32) -> u64 {
     if key != FINE {
         return refusal(key);
     }
@@ -163,7 +165,7 @@ fn try_witnesses(
     }
 }
 
-// A claim of a kind, its witnesses and its parts.
+// A claim of a kind, its witnesses, its parts and its mending.
 fn try_claim(
     t: &mut Tally,
     case: Case,
@@ -181,15 +183,17 @@ fn try_claim(
     let got = of_claim(zsrm::claim(mode_of(case.se), tasks, jobs, case.horizon, line));
     note(t, call, 0, claim_answer(key, replay.bad), got);
     try_witnesses(t, case, tasks, jobs, line, replay, key, between);
+    try_mend(t, case, tasks, jobs, line, replay, own);
     if alike(line, own, 0) == false {
-        add(t, call % 1600 + UNLIKE_OURS, 1);
+        add(t, call % 1664 + UNLIKE_OURS, 1);
     }
     if before < count(t, DIFFERENCES) {
         print_line(line);
     }
 }
 
-// The kinds of claims: our run, the run that takes the last of equals, and our run with one of six changes.
+// The kinds of claims: our run, the run that takes the last of equals, and our run with one of six changes; every other time the last four
+// are made to the run that takes the last of equals.
 const OUR_RUN: u32 = 0;
 
 const LAST_OF_EQUALS: u32 = 1;
@@ -215,7 +219,8 @@ pub(crate) fn try_claims(
     let mut line = no_line();
     for kind in 0..8 {
         if claimed(kind, ticks, case.trial) {
-            let way = if kind == LAST_OF_EQUALS {
+            let other = (3 < kind) & (case.trial % 2 == 1);
+            let way = if other | (kind == LAST_OF_EQUALS) {
                 LAST
             } else {
                 case.way

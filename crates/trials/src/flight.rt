@@ -23,8 +23,8 @@ pub(crate) fn fill(line: &mut Line, from: u32, to: u32, entry: u16) {
     }
 }
 
-// A run of so many ticks from an instant, by a way to choose among equals: its entries are written from the front on, and where it ends is
-// the answer.
+// A run of so many ticks, by a way to choose among equals: the entry of tick t is written at place t − front, and where it ends is the
+// answer.
 pub(crate) fn fly_on(
     start: Sim,
     se: bool,
@@ -33,6 +33,7 @@ pub(crate) fn fly_on(
     ticks: u32,
     way: u32,
     line: &mut Line,
+    front: u32,
 ) -> Sim {
     let to = start.now % 65536 + ticks % 65536;
     let mut s = start;
@@ -40,12 +41,7 @@ pub(crate) fn fly_on(
         if s.now < to {
             let x = chosen(s, tasks, jobs, way);
             let end = leap(s, se, tasks, jobs, x, to);
-            fill(
-                line,
-                less(s.now, start.now),
-                less(end.now, start.now),
-                entry_of(x),
-            );
+            fill(line, less(s.now, front), less(end.now, front), entry_of(x));
             s = end;
         }
     }
@@ -61,7 +57,7 @@ pub(crate) fn fly(
     way: u32,
     line: &mut Line,
 ) -> Sim {
-    fly_on(begin(jobs), se, tasks, jobs, horizon, way, line)
+    fly_on(begin(jobs), se, tasks, jobs, horizon, way, line, 0)
 }
 
 // The end of the stretch of equal entries that begins at a tick.

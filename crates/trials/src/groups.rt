@@ -98,7 +98,7 @@ fn input_of(kind: u32, trial: u32, se: bool) -> Input {
     }
 }
 
-// One input through every public function: run, fresh, step, go_on, verdict, claim, witness, response.
+// One input through every public function: run, fresh, step, go_on, verdict, verdicts, claim, witness, response, mend.
 fn try_input(t: &mut Tally, case: Case, tasks: &[u32], jobs: &[u32], between: usize) {
     let key = schedule_key(tasks, jobs, case.horizon, case.room);
     let ticks = ticks_of(key, case.horizon);

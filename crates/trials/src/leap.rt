@@ -12,12 +12,15 @@ use crate::list::less;
 use crate::list::of;
 use crate::list::wide;
 
-// The ways to choose among equals: the first, the job that ran before where it still may, and one that is not ours, the last.
+// The ways to choose among equals: the first, the job that ran before where it still may, and two that are not our run's: the last, and the
+// way of mending, whoever ran before where no instant falls on the present, else the first.
 pub(crate) const LOWEST: u32 = 0;
 
 pub(crate) const STAYING: u32 = 1;
 
 pub(crate) const LAST: u32 = 2;
+
+pub(crate) const MENDING: u32 = 3;
 
 // What is left of each job, and its fate, at an instant: 0 while it is open, 4 f + 1 for a finish at f, 4 e + 2 for an end in tick e, 3
 // where there is no such job. A turn is an instant at which the job that ran finished or, in SE, reached C; cut has a bit for each job
@@ -168,6 +171,9 @@ pub(crate) fn before(s: Sim, tasks: &[u32], jobs: &[u32]) -> usize {
 pub(crate) fn chosen(s: Sim, tasks: &[u32], jobs: &[u32], way: u32) -> usize {
     let r = ready_now(s, tasks, jobs);
     if (way == STAYING) & (s.ran < 64) & may(s, tasks, jobs, s.ran) {
+        return s.ran;
+    }
+    if (way == MENDING) & !s.turn & !fixed_instant(tasks, jobs, s.now) {
         return s.ran;
     }
     if way == LAST { r.last } else { r.first }

@@ -1,5 +1,5 @@
-// Schedules made from a run's by one change: an entry, an idle tick, two jobs or two ticks exchanged, a number that is no job. Some are
-// legal still, where jobs tie or nothing is changed.
+// Schedules made from a run's by one change: an entry, an idle tick, two jobs or two ticks exchanged, an entry repeated and the rest one
+// tick late, a number that is no job. Some are legal still, where jobs tie or nothing is changed.
 ghost use Prim.Native.Nat.{_<_};
 use crate::draw::draw;
 use crate::flight::entry_of;
@@ -57,6 +57,17 @@ fn other_entry(kind: u32, trial: u32, place: u32, jobs: u32, next: u16) -> u16
     }
 }
 
+// The entry at a tick repeated, and the rest one tick late.
+fn delay(line: &mut Line, from: u32, to: u32) {
+    let mut late = entry_at(line, from as usize);
+    for t in from..to {
+        let i = (t % 16384) as usize;
+        let here = line[i];
+        line[i] = late;
+        late = here;
+    }
+}
+
 // One change of a kind from 2 to 7; the kinds before have none.
 pub(crate) fn change(line: &mut Line, kind: u32, trial: u32, jobs: u32, horizon: u32) {
     let place = 9000 + 8 * (kind % 64);
@@ -68,6 +79,10 @@ pub(crate) fn change(line: &mut Line, kind: u32, trial: u32, jobs: u32, horizon:
         let a = entry_of(draw(trial, place + 1, jobs) as usize);
         let b = entry_of(draw(trial, place + 2, jobs) as usize);
         exchange(line, if kind == 2 { 0 } else { t }, horizon, a, b);
+        return;
+    }
+    if (kind == 7) & (trial % 4 < 2) {
+        delay(line, t, horizon);
         return;
     }
     let here = entry_at(line, t as usize);

@@ -14,6 +14,7 @@ mod judge;
 mod leap;
 mod lines;
 mod list;
+mod mends;
 mod parts;
 mod records;
 mod runs;

@@ -138,7 +138,16 @@ fn try_go_on(
     };
     let mut own = no_line();
     let so_many = ticks_of(key, ticks);
-    let end = fly_on(start, case.se, tasks, held, so_many, case.way, &mut own);
+    let end = fly_on(
+        start,
+        case.se,
+        tasks,
+        held,
+        so_many,
+        case.way,
+        &mut own,
+        start.now,
+    );
     let ran = lent_go_on(rec, case, tasks, jobs, ticks, line, from, room);
     let outcome = ran.outcome;
     let record = ran.record;

@@ -9,7 +9,7 @@ use crate::list::Case;
 use crate::list::at;
 use crate::list::entry_at;
 
-pub(crate) type Tally = [u32; 1600];
+pub(crate) type Tally = [u32; 1664];
 
 pub(crate) const INPUTS: usize = 0;
 
@@ -53,6 +53,8 @@ pub(crate) const BATCH_RUN: usize = 1472;
 
 pub(crate) const BLANK: usize = 1536;
 
+pub(crate) const MEND: usize = 1600;
+
 // What is counted beside the answers.
 pub(crate) const IDLE_TICKS: usize = 65;
 
@@ -78,20 +80,24 @@ pub(crate) const TO_ENDED: usize = 1282;
 
 pub(crate) const NO_RUNS: usize = 1409;
 
+pub(crate) const ENTRIES_CHANGED: usize = 1602;
+
+pub(crate) const MENDED_UNLIKE_OURS: usize = 1603;
+
 pub(crate) const UNLIKE_OURS: usize = 2;
 
 const MADE: usize = 63;
 
 pub(crate) fn nothing() -> Tally {
-    [0; 1600]
+    [0; 1664]
 }
 
 pub(crate) fn count(t: &Tally, what: usize) -> u32 {
-    if what < 1600 { t[what] } else { 0 }
+    if what < 1664 { t[what] } else { 0 }
 }
 
 pub(crate) fn add(t: &mut Tally, what: usize, by: u32) {
-    if what < 1600 {
+    if what < 1664 {
         t[what] = std::num::wrapping_add_u32(t[what], by);
     }
 }
@@ -118,11 +124,11 @@ fn class(answer: u64) -> usize {
     }
 }
 
-// A call was compared: what it names, a job, a tick or how many parts, what was expected, and what came.
+// A call was compared: what it names, a job, a tick, or how many parts or entries, what was expected, and what came.
 pub(crate) fn note(t: &mut Tally, call: usize, number: u32, want: u64, got: u64) {
     add(t, CALLS, 1);
-    add(t, call % 1600 + MADE, 1);
-    add(t, call % 1600 + class(want) % 64, 1);
+    add(t, call % 1664 + MADE, 1);
+    add(t, call % 1664 + class(want) % 64, 1);
     if want != got {
         add(t, DIFFERENCES, 1);
         difference(call / 64, number, want, got);
@@ -157,7 +163,7 @@ fn refused(number: usize, times: u32) {
 
 // What the words name, so many counts, and the refusals that came; nothing of a call that was not made.
 fn line(t: &Tally, words: &[u8], call: usize, n: usize) {
-    let first = call % 1600;
+    let first = call % 1664;
     if count(t, first + MADE) == 0 {
         return;
     }
@@ -193,7 +199,12 @@ fn claims(t: &Tally) {
     line(t, b"  claim with another job:", CLAIM + 256, 3);
     line(t, b"  claim with an idle tick:", CLAIM + 320, 3);
     line(t, b"  claim with no job's number:", CLAIM + 384, 3);
-    line(t, b"  claim with neighbours exchanged:", CLAIM + 448, 3);
+    line(
+        t,
+        b"  claim with neighbours exchanged, or an entry repeated:",
+        CLAIM + 448,
+        3,
+    );
 }
 
 // All that a group counted, or the sum of all.
@@ -259,6 +270,12 @@ pub(crate) fn report(t: &Tally) {
     line(t, b"  batch done, of no run:", BATCH, 2);
     line(t, b"  run of a batch as by itself:", BATCH_RUN, 1);
     line(t, b"  record of no run, blank:", BLANK, 1);
+    line(
+        t,
+        b"  mending whole, changed, entries that it changed, mended to another than our run:",
+        MEND,
+        4,
+    );
 }
 
 pub(crate) fn numbers(name: &[u8], list: &[u32]) {

@@ -23,3 +23,5 @@ pub mod Called
 pub mod Bytes
 pub mod Promises
 pub mod GoOn
+pub mod Mend
+pub mod Mending

@@ -2,16 +2,17 @@
 --
 -- `claimAnswer g horizon schedule` is what the claim check answers: each `..Answer`, and for the calls from C each `..Result`, is the whole
 -- contract of its function in src/, which takes any input and returns; with `runSchedule`, `goOnSchedule` and `runBytes` for what a run
--- writes. `checkLists`, `checkStep`, `checkGoOn`, `checkSchedule`, `checkVerdict` and `checkWitness` are the checks of each entry point, in
--- the order of their numbers.
--- `..Said` says an answer in numbers, and Said gives each its name: `done`, `refused number place`, `legal`, `notLegal t`, `met`,
--- `late n isExact`, `ended`, `outside i`, `notMissed`, `acceptedLate n isExact`, `acceptedEnded`, `unfinished`, `finishedAt f`,
--- `endedIn e`. `recordBefore g schedule t` is the record before tick t of the schedule, `replayed g schedule` the one at its end, and
--- `replay g r entries` the one that entries lead to from r; `suspendedAt r j` and `waitedAt r j` are the ticks that a record counts for job
--- j as suspended while alive and as eligible while another job ran. Steps and runs take a tie choice, `Stay` or `Lowest`, and `r .previous`
--- is what r keeps as the entry before its tick; a caller may hand in any job there. All of them are definitions of specs/. Laws/Promises
--- has `topmost-example`, a table that meets the premise of (ii), and Traced `ties-differ`, a record from which the tie choices differ, and
--- `lowest-goes-on-illegally`, a legal schedule after which Lowest does not go on legally.
+-- writes, and `mendSchedule` for what mending writes into its second list. `checkLists`, `checkStep`, `checkGoOn`, `checkSchedule`,
+-- `checkMend`, `checkVerdict` and `checkWitness` are the checks of each entry point, in the order of their numbers.
+-- `..Said` says an answer in numbers, and Said gives each its name: `done`, `refused number place`, `legal`, `notLegal t`, `whole`,
+-- `changed first n`, `met`, `late n isExact`, `ended`, `outside i`, `notMissed`, `acceptedLate n isExact`, `acceptedEnded`, `unfinished`,
+-- `finishedAt f`, `endedIn e`. `recordBefore g schedule t` is the record before tick t of the schedule, `replayed g schedule` the one at its
+-- end, and `replay g r entries` the one that entries lead to from r; `suspendedAt r j` and `waitedAt r j` are the ticks that a record counts
+-- for job j as suspended while alive and as eligible while another job ran; `differing claimed made` is the number of places at which two
+-- schedules differ. Steps and runs take a tie choice, `Stay` or `Lowest`, and `r .previous` is what r keeps as the entry before its tick; a
+-- caller may hand in any job there. All of them are definitions of specs/. Laws/Promises has `topmost-example`, a table that meets the
+-- premise of (ii), and Traced `ties-differ`, a record from which the tie choices differ, `lowest-goes-on-illegally`, a legal schedule after
+-- which Lowest does not go on legally, and `mends`, damaged claims and what comes back.
 use Prim.Native.Nat.{_*_, _+_, _-_, _<_, ℕ, _≤_}
 use mathlib.Core.Bool.{Bool, false, true}
 use mathlib.Core.List.{_++_, List, [], _∷_}
@@ -19,19 +20,21 @@ use mathlib.Core.Logic.{_↔_}
 use mathlib.Core.Path.{ap, refl, subst, sym, _≡_, _∙_}
 use native.Mathlib.Omega.{arith}
 use lib.ListN.{getD, length}
+use Rattle.tables.specs.declared.outcome.Outcome.the-variants.{Done, Refused}
 use Rattle.zsrm.specs.declared.answers.Judged.{Judged}
 use Rattle.zsrm.specs.declared.answers.Stepped.{Stepped}
 use Rattle.zsrm.specs.declared.record.Record.{Record}
 use Rattle.zsrm.specs.declared.tie.Tie.{Tie}
 use Rattle.zsrm.specs.declared.tie.Tie.the-variants.{Lowest, Stay}
 use Rattle.zsrm.specs.declared.record.Standing.the-variants.{Finished, Ended}
-use Rattle.zsrm.specs.Answers.{checkGoOn, checkSchedule, checkStep, checkVerdict, checkWitness, claimAnswer, freshAnswer, goOnAnswer, goOnSchedule, ran, refusedStep, responseAnswer, judgedAt, runAnswer, runSchedule, stepAnswer, stepped, stepsFrom, verdictAnswer, verdictsAnswer, witnessAnswer}
+use Rattle.zsrm.specs.Answers.{checkGoOn, checkMend, checkSchedule, checkStep, checkVerdict, checkWitness, claimAnswer, freshAnswer, goOnAnswer, goOnSchedule, mendAnswer, mendSchedule, ran, refusedStep, responseAnswer, judgedAt, runAnswer, runSchedule, stepAnswer, stepped, stepsFrom, verdictAnswer, verdictsAnswer, witnessAnswer}
 use Rattle.zsrm.specs.Record.{blank, consistent, fresh, standingAt, suspendedAt, waitedAt}
 use Rattle.tables.specs.Refusals.{checkLists}
 use Rattle.zsrm.specs.Run.{replay, replayed, recordBefore}
-use Rattle.zsrm.specs.Said.{acceptedEnded, acceptedLate, claimSaid, ended, endedIn, finishedAt, late, legal, met, notLegal, notMissed, standingSaid, unfinished, verdictSaid, witnessSaid, outside}
+use Rattle.zsrm.specs.Said.{acceptedEnded, acceptedLate, changed, claimSaid, ended, endedIn, finishedAt, late, legal, mendedSaid, met, notLegal, notMissed, standingSaid, unfinished, verdictSaid, whole, witnessSaid, outside}
 use Rattle.tables.specs.Said.{done, outcomeSaid, refused}
 use Rattle.zsrm.specs.Given.{Given}
+use Rattle.zsrm.specs.Mend.{differing, mendChoice}
 use Rattle.tables.specs.Tables.{arrival, deadline, deadlineInstant, idle, jobCount, jobCriticality, taskOf, zeroSlackInstant, lists, execution, jobNominal}
 use Rattle.zsrm.specs.Tick.{candidate, choice}
 use Rattle.zsrm.specs.Topmost.{Topmost, assured}
@@ -51,16 +54,18 @@ use Rattle.zsrm.proofs.Laws.Topmost.{assured-in-time, topmost-finished,
 use Rattle.zsrm.proofs.Readings.{LeastIllegal, LegalAt, FirstOutside, Within}
 use Rattle.zsrm.proofs.Laws.Verdicts.{legal-consistent}
 use Rattle.tables.proofs.Laws.Accepted.{lists-few, lists-jobs, lists-tasks}
+use Rattle.tables.proofs.Laws.Said.{outcome-said}
 use Rattle.zsrm.proofs.Laws.Called.{c-refused-both, c-run-claim, c-run-kept, c-run-zero}
 use Rattle.zsrm.specs.Bytes.{bytes2, checkBytes, claimResult, givenBytes, numbers2, runBytes, runResult}
 use Rattle.zsrm.proofs.Laws.Called as called
 use Rattle.zsrm.proofs.Laws.Exactly as exactly
 use Rattle.zsrm.proofs.Laws.GoOn as parts
+use Rattle.zsrm.proofs.Laws.Mend as mending
 
 -- ## Demand 1: bad input gets exactly the refusal that the checks name, and the caller's lists then hold what they held
 
--- The outcome of a fresh record, a step, going on and a run is what its checks say; a claim, a verdict and a witness are refused exactly
--- where theirs refuse.
+-- The outcome of a fresh record, a step, going on and a run is what its checks say; a claim, mending, a verdict and a witness are refused
+-- exactly where theirs refuse.
 pub fresh-checked : (tasks jobs : List ℕ) → freshAnswer tasks jobs .outcome ≡ checkLists (lists tasks jobs)
 unfolding freshAnswer ran
 fresh-checked tasks jobs = refl
@@ -77,6 +82,10 @@ run-outcome-checked g tie horizon lent = run-outcome g tie horizon lent
 pub claim-refused : (g : Given) (horizon : ℕ) (schedule : List ℕ) (number place : ℕ)
     → claimSaid (claimAnswer g horizon schedule) ≡ refused number place ↔ outcomeSaid (checkSchedule (g .lists) horizon (length schedule)) ≡ refused number place
 claim-refused g horizon schedule number place = exactly.claim-refused g horizon schedule number place
+
+pub mend-refused : (g : Given) (horizon : ℕ) (schedule lent : List ℕ) (number place : ℕ)
+    → mendedSaid (mendAnswer g horizon schedule lent) ≡ refused number place ↔ outcomeSaid (checkMend (g .lists) horizon (length schedule) (length lent)) ≡ refused number place
+mend-refused g horizon schedule lent number place = exactly.mend-refused g horizon schedule lent number place
 
 pub verdict-refused : (g : Given) (r : Record) (j number place : ℕ)
     → verdictSaid (verdictAnswer g r j) ≡ refused number place ↔ outcomeSaid (checkVerdict g r j) ≡ refused number place
@@ -117,6 +126,23 @@ refused-keeps g tie horizon lent number place says = run-refused-keeps g tie hor
 pub refused-go-on-keeps : (g : Given) (tie : Tie) (r : Record) (ticks : ℕ) (lent : List ℕ) (number place : ℕ) → outcomeSaid (goOnAnswer g tie r ticks lent .outcome) ≡ refused number place
     → (goOnSchedule g tie r ticks lent ≡ lent) × (goOnAnswer g tie r ticks lent .«record» ≡ blank)
 refused-go-on-keeps g tie r ticks lent number place says = parts.go-on-refused-keeps g tie r ticks lent number place says
+
+-- Mending refuses what the claim check refuses, and else, with 10, a second list whose length is not the horizon.
+pub mend-refused-as-claim : (g : Given) (horizon : ℕ) (schedule lent : List ℕ) (number place : ℕ) → claimSaid (claimAnswer g horizon schedule) ≡ refused number place
+    → mendedSaid (mendAnswer g horizon schedule lent) ≡ refused number place
+mend-refused-as-claim g horizon schedule lent number place says = mending.refused-as-claim g horizon schedule lent number place (claim-refused g horizon schedule number place .0 says)
+
+pub mend-refused-second : (g : Given) (horizon : ℕ) (schedule lent : List ℕ) → outcomeSaid (checkSchedule (g .lists) horizon (length schedule)) ≡ done → (length lent ≡ horizon → ⊥)
+    → mendedSaid (mendAnswer g horizon schedule lent) ≡ refused 10 0
+mend-refused-second g horizon schedule lent ok other = mending.refused-second g horizon schedule lent ok other
+
+-- Where mending is refused, the second list keeps what it held.
+pub refused-mend-keeps : (g : Given) (horizon : ℕ) (schedule lent : List ℕ) (number place : ℕ) → mendedSaid (mendAnswer g horizon schedule lent) ≡ refused number place
+    → mendSchedule g horizon schedule lent ≡ lent
+unfolding outcomeSaid
+refused-mend-keeps g horizon schedule lent number place says =
+    let e = outcome-said (checkMend (g .lists) horizon (length schedule) (length lent)) (Refused number place) (mend-refused g horizon schedule lent number place .0 says) in
+    mending.refused-is g horizon schedule lent number place e .1
 
 -- Where a step is refused, its record is blank and every other number in it is 0 (`refusedStep`).
 pub refused-step : (g : Given) (tie : Tie) (r : Record) (number place : ℕ) → outcomeSaid (stepAnswer g tie r .outcome) ≡ refused number place
@@ -289,6 +315,49 @@ module _ (g : Given) (horizon : ℕ) (schedule : List ℕ) where
   pub not-legal-exactly : (t : ℕ) → claimSaid (claimAnswer g horizon schedule) ≡ notLegal t
       ↔ (outcomeSaid (checkSchedule (g .lists) horizon (length schedule)) ≡ done) × LeastIllegal g schedule t
   not-legal-exactly = exactly.not-legal-exactly g horizon schedule
+
+  -- A claim mended into a second list, where nothing is refused.
+  module _ (lent : List ℕ) (ok : outcomeSaid (checkMend (g .lists) horizon (length schedule) (length lent)) ≡ done) where
+    passes : checkMend (g .lists) horizon (length schedule) (length lent) ≡ Done
+    unfolding outcomeSaid
+    passes = outcome-said (checkMend (g .lists) horizon (length schedule) (length lent)) Done ok
+
+    -- The result is legal.
+    pub mended-is-legal : claimSaid (claimAnswer g horizon (mendSchedule g horizon schedule lent)) ≡ legal
+    mended-is-legal = mending.mended-said-legal g horizon schedule lent passes
+
+    -- A legal claim, and no other, is answered "whole", and comes back entry for entry.
+    pub whole-exactly : mendedSaid (mendAnswer g horizon schedule lent) ≡ whole ↔ claimSaid (claimAnswer g horizon schedule) ≡ legal
+    whole-exactly = mending.whole-exactly g horizon schedule lent passes
+
+    pub whole-comes-back : claimSaid (claimAnswer g horizon schedule) ≡ legal → mendSchedule g horizon schedule lent ≡ schedule
+    whole-comes-back says = mending.whole-keeps g horizon schedule lent passes says
+
+    -- Any other is answered "changed": the first changed tick is the one at which the claim is not legal, and the count is the number of
+    -- places at which the lists differ.
+    pub changed-exactly : (first n : ℕ) → mendedSaid (mendAnswer g horizon schedule lent) ≡ changed first n
+        ↔ (claimSaid (claimAnswer g horizon schedule) ≡ notLegal first) × (n ≡ differing schedule (mendSchedule g horizon schedule lent))
+    changed-exactly first n = mending.changed-exactly g horizon schedule lent passes first n
+
+    module _ (first : ℕ) (says : claimSaid (claimAnswer g horizon schedule) ≡ notLegal first) where
+      -- Before that tick the entries are the claim's, at it they differ, so the count is at least 1 ..
+      pub changed-first : ((t : ℕ) → t < first → getD (mendSchedule g horizon schedule lent) t idle ≡ getD schedule t idle)
+          × (getD (mendSchedule g horizon schedule lent) first idle ≡ getD schedule first idle → ⊥)
+          × (0 < differing schedule (mendSchedule g horizon schedule lent))
+      changed-first = mending.changed-first g horizon schedule lent passes first says
+
+      -- .. and from it on each entry is the one that mending chooses (`mendChoice`): the previous entry where the tick is above 0 and no
+      -- scheduling instant, otherwise the lowest numbered candidate, or idle (`mend-keeps` and `mend-else` in Readings; there `choice-job`
+      -- and `choice-idle` for the lowest candidate, or idle). What the record keeps is the entry before (`entryBefore-kept`).
+      pub changed-then : (t : ℕ) → first ≤ t → t < horizon
+          → getD (mendSchedule g horizon schedule lent) t idle ≡ mendChoice g (recordBefore g (mendSchedule g horizon schedule lent) t)
+      changed-then t = mending.changed-then g horizon schedule lent passes first says t
+
+    -- Mending the result again changes nothing.
+    pub mends-once : (more : List ℕ) → length more ≡ horizon
+        → (mendedSaid (mendAnswer g horizon (mendSchedule g horizon schedule lent) more) ≡ whole)
+        × (mendSchedule g horizon (mendSchedule g horizon schedule lent) more ≡ mendSchedule g horizon schedule lent)
+    mends-once more room = mending.mend-once g horizon schedule lent more passes room
 
   -- A witness is accepted exactly when its schedule is legal, the named job is in the list, every strictly more critical job of the list
   -- keeps to its nominal time C (`Within` in Readings), and the named job is late or ended; against a late job it carries by how much, and

@@ -2,7 +2,7 @@
 -- proved of the definition that computes it. A test holds where it is `true`; a later sentence uses the words of earlier ones.
 -- g is what is given, r the record at tick t, e the tick's entry, p the entry before.
 use Prim.Native.Nat.{_+_, _-_, _<_, suc, zero, ℕ, _≤_}
-use mathlib.Core.Bool.{_&&_, Bool, cond, false, or-assoc, true}
+use mathlib.Core.Bool.{_&&_, Bool, cond, false, not, or-assoc, true}
 use mathlib.Core.List.{List, [], _∷_}
 use mathlib.Core.Logic.{Iff·rfl, Iff·trans, inl, inr, _↔_, _≢_, _⊎_, ⊎-elim}
 use mathlib.Core.Path.{ap, refl, subst, sym, _∙_, _≡_}
@@ -11,7 +11,7 @@ use native.Mathlib.Omega.{arith}
 use lib.Count.{ones}
 use lib.Dec.{eqb, leb, ltb}
 use lib.ListN.{getD, length}
-use borrow.Author.Tests.{eq-eqb, eqb-false, eqb-true, le-leb, leb-false, leb-true, lt-leb, ne-eqb}
+use borrow.Author.Tests.{eq-eqb, eqb-false, eqb-true, le-leb, leb-false, leb-true, lt-leb, lt-ltb, ne-eqb}
 use Rattle.bits.specs.Below.{bit, least, some}
 use Rattle.bits.proofs.Below.{least-found, some-true}
 use Rattle.bits.proofs.Bools.{by-cond, clash, fails}
@@ -27,6 +27,7 @@ use Rattle.zsrm.specs.declared.record.Standing.{Standing}
 use Rattle.zsrm.specs.declared.record.Standing.the-variants.{Ended, Finished, NotArrived, Unfinished}
 use Rattle.zsrm.specs.declared.mode.Mode.the-variants.{SE}
 use Rattle.zsrm.specs.Legal.{claim, candidateOrIdle, finishedAt, legalEntry, schedulingInstant, instantBy, isLegal, legalFrom, legalLength}
+use Rattle.zsrm.specs.Mend.{keepsPrevious, mendChoice}
 use Rattle.zsrm.specs.Record.{consistent, doneAt, fresh, placeAt, standingAt, suspendedAt, waitedAt}
 use Rattle.zsrm.specs.Given.{isSE, Given}
 use Rattle.zsrm.specs.Run.{replay, replayed, recordAt, recordBefore}
@@ -327,6 +328,19 @@ pub claim-not-refused : (g : Given) (es : List ℕ) (number place : ℕ) → cla
 unfolding claim
 claim-not-refused g es number place =
     by-cond (λ c. c ≢ claims.Refused number place) (isLegal g es) Legal (NotLegal (legalLength g es)) (λ q e. apart (cc)) (λ q e. apart (cc))
+
+-- Request Eleven: a salvage tool "keeps the previous entry where the tick is above 0 and no scheduling instant, and otherwise takes the
+-- lowest numbered candidate, or idle where there is none", which is what the tie choice Lowest asks for.
+module _ (g : Given) (r : Record) where
+  pub mend-keeps : 0 < r .tick → schedulingInstant g r (r .previous) ≡ false → mendChoice g r ≡ r .previous
+  unfolding mendChoice keepsPrevious
+  mend-keeps l q = rw (lt-ltb 0 (r .tick) l, q)
+
+  pub mend-else : (0 < r .tick → schedulingInstant g r (r .previous) ≡ true) → mendChoice g r ≡ choice g Lowest r
+  unfolding mendChoice keepsPrevious
+  mend-else h =
+      rw (fails (ltb 0 (r .tick) && not (schedulingInstant g r (r .previous))) (λ k. let w = and-reads (lt-reads 0 (r .tick)) (not-reads (schedulingInstant g r (r .previous))) .0 k in clash (h (w .0)) (w .1)))
+      (sym (choices.choice-lowest g r))
 
 -- "Verdict from a consistent record .., H being its own tick: ended; met if finished at f ≤ arrival + D; late if finished later, or alive
 -- with H ≥ arrival + D; open otherwise." And by how much: exactly n where it finished n ticks, one or more, after arrival + D; at least n

@@ -5,19 +5,21 @@ use mathlib.Core.Path.{refl, _≡_}
 use lib.ListN.{replicate}
 use Rattle.bits.specs.Below.{count, every, greatest, least, listFrom, some, word}
 use Rattle.zsrm.specs.declared.answers.Claim.the-variants.{Legal, NotLegal}
+use Rattle.zsrm.specs.declared.answers.Mended.the-variants.{Changed, Whole}
 use Rattle.zsrm.specs.declared.mode.Mode.{Mode}
 use Rattle.zsrm.specs.declared.mode.Mode.the-variants.{S, SE}
 use Rattle.zsrm.specs.declared.record.Record.{Record}
 use Rattle.zsrm.specs.declared.tie.Tie.{Tie}
 use Rattle.zsrm.specs.declared.tie.Tie.the-variants.{Lowest, Stay}
-use Rattle.zsrm.specs.Answers.{checkSchedule, checkVerdict, checkWitness, claimAnswer, checkGoOn, checkStep, goOnSchedule, ran, runAnswer, runSchedule, stepAnswer, stepped, verdictAnswer, witnessAnswer}
+use Rattle.zsrm.specs.Answers.{checkMend, checkSchedule, checkVerdict, checkWitness, claimAnswer, checkGoOn, checkStep, goOnSchedule, mendAnswer, mendSchedule, ran, runAnswer, runSchedule, stepAnswer, stepped, verdictAnswer, witnessAnswer}
 use Rattle.tables.specs.declared.outcome.Outcome.the-variants.{Done}
 use Rattle.tables.specs.Refusals.{unless, ascending, before, check10, check13, check2, check3, check4, check5, check6, check7, check8, check9, checkJobs, checkLists, checkTasks, outside, preceding, refuse}
 use Rattle.zsrm.specs.Given.{given}
 use Rattle.zsrm.specs.Legal.{claim, candidateOrIdle, legalEntry, schedulingInstant, instantBy, isLegal, legalFrom, legalLength}
+use Rattle.zsrm.specs.Mend.{differing, differs, keepsPrevious, mend, mendChoice, mended}
 use Rattle.zsrm.specs.Record.{arrived, arriving, blank, consistent, doneAt, fresh, freshPlace, opening, placeAt, soundAt, soundPrevious, standingAt, suspendedAt, waitedAt, check11, check12, checkRoom}
-use Rattle.zsrm.specs.Run.{entriesBy, replay, runEntries, runRecord, finalBy, replayed}
-use Rattle.tables.specs.Tables.{arrival, criticality, deadline, deadlineInstant, execution, jobCount, jobCriticality, jobNominal, jobPriority, nominal, overload, period, priority, taskCount, taskOf, offset, zeroSlackInstant}
+use Rattle.zsrm.specs.Run.{entriesBy, recordAt, recordBefore, replay, runEntries, runRecord, finalBy, replayed}
+use Rattle.tables.specs.Tables.{arrival, criticality, deadline, deadlineInstant, execution, idle, jobCount, jobCriticality, jobNominal, jobPriority, nominal, overload, period, priority, taskCount, taskOf, offset, zeroSlackInstant}
 use Rattle.zsrm.specs.Tick.{advanced, alive, candidate, choice, doneAfter, eligible, ends, finishes, goesOn, higherPriority, keeps, lowest, moreCritical, over, pastZeroSlack, placeAfter, someJob, standingAfter, suspended, suspendedAfter, waitedAfter, waits}
 use Rattle.zsrm.specs.Traced.{both, computed, equals, said, table}
 use Rattle.zsrm.specs.Verdict.{breaks, isOutside, outsider, verdict, witness}
@@ -49,3 +51,20 @@ pub lowest-goes-on-illegally : (mode : Mode)
 unfolding some every least greatest listFrom taskCount period deadline nominal overload criticality priority offset jobCount taskOf arrival execution jobCriticality jobPriority jobNominal zeroSlackInstant refuse before ascending outside check2 check3 check4 checkTasks check5 preceding check6 check7 check8 checkJobs checkLists check9 check10 check11 placeAt doneAt suspendedAt waitedAt standingAt arriving arrived opening freshPlace fresh soundAt soundPrevious consistent alive someJob moreCritical higherPriority pastZeroSlack suspended eligible candidate lowest keeps choice doneAfter over ends finishes suspendedAfter waits waitedAfter goesOn standingAfter placeAfter advanced replay entriesBy instantBy schedulingInstant candidateOrIdle legalEntry legalFrom legalLength isLegal claim unless checkSchedule claimAnswer replayed checkRoom checkGoOn goOnSchedule
 lowest-goes-on-illegally S = (refl, refl, refl, refl, refl)
 lowest-goes-on-illegally SE = (refl, refl, refl, refl, refl)
+
+-- Damaged claims over case 10's jobs, and what comes back. The last tick of job 0 dropped to idle: not legal at 2, where job 0 goes on, and 1
+-- entry differs. Job 1 first, its last tick dropped and logged one tick late: job 1 goes on at 2, though it has not the lowest number, and 2
+-- entries differ. All of it one tick late: at 0 the lowest number is taken and goes on, whatever the claim has later, and 5 entries differ.
+-- And a legal claim.
+pub mends : (mode : Mode)
+    → (mendAnswer (given mode equals both) 6 (0 ∷ 0 ∷ idle ∷ 1 ∷ 1 ∷ 1 ∷ []) (replicate 6 0) ≡ Changed 2 1)
+    × (mendSchedule (given mode equals both) 6 (0 ∷ 0 ∷ idle ∷ 1 ∷ 1 ∷ 1 ∷ []) (replicate 6 0) ≡ 0 ∷ 0 ∷ 0 ∷ 1 ∷ 1 ∷ 1 ∷ [])
+    × (mendAnswer (given mode equals both) 6 (1 ∷ 1 ∷ idle ∷ 1 ∷ 0 ∷ 0 ∷ []) (replicate 6 0) ≡ Changed 2 2)
+    × (mendSchedule (given mode equals both) 6 (1 ∷ 1 ∷ idle ∷ 1 ∷ 0 ∷ 0 ∷ []) (replicate 6 0) ≡ 1 ∷ 1 ∷ 1 ∷ 0 ∷ 0 ∷ 0 ∷ [])
+    × (mendAnswer (given mode equals both) 6 (idle ∷ 1 ∷ 1 ∷ 1 ∷ 0 ∷ 0 ∷ []) (replicate 6 0) ≡ Changed 0 5)
+    × (mendSchedule (given mode equals both) 6 (idle ∷ 1 ∷ 1 ∷ 1 ∷ 0 ∷ 0 ∷ []) (replicate 6 0) ≡ 0 ∷ 0 ∷ 0 ∷ 1 ∷ 1 ∷ 1 ∷ [])
+    × (mendAnswer (given mode equals both) 6 (1 ∷ 1 ∷ 1 ∷ 0 ∷ 0 ∷ 0 ∷ []) (replicate 6 0) ≡ Whole)
+    × (mendSchedule (given mode equals both) 6 (1 ∷ 1 ∷ 1 ∷ 0 ∷ 0 ∷ 0 ∷ []) (replicate 6 0) ≡ 1 ∷ 1 ∷ 1 ∷ 0 ∷ 0 ∷ 0 ∷ [])
+unfolding some every count least greatest listFrom taskCount period deadline nominal overload criticality priority offset jobCount taskOf arrival execution jobCriticality jobPriority jobNominal zeroSlackInstant refuse before ascending outside check2 check3 check4 checkTasks check5 preceding check6 check7 check8 checkJobs checkLists check9 check10 placeAt doneAt suspendedAt waitedAt standingAt arriving arrived opening freshPlace fresh alive someJob moreCritical higherPriority pastZeroSlack suspended eligible candidate lowest doneAfter over ends finishes suspendedAfter waits waitedAfter goesOn standingAfter placeAfter advanced replay entriesBy instantBy schedulingInstant candidateOrIdle legalEntry legalFrom legalLength isLegal unless checkSchedule replayed recordAt recordBefore differs differing keepsPrevious mendChoice mended mend checkMend mendAnswer mendSchedule
+mends S = (refl, refl, refl, refl, refl, refl, refl, refl)
+mends SE = (refl, refl, refl, refl, refl, refl, refl, refl)

@@ -14,6 +14,7 @@ use Rattle.zsrm.proofs.judging.response.Reads as response
 use Rattle.zsrm.proofs.judging.verdict.Reads as verdict
 use Rattle.zsrm.proofs.judging.verdicts.Reads as verdicts
 use Rattle.zsrm.proofs.judging.witness.Reads as witness
+use Rattle.zsrm.proofs.mending.mend.Reads as mend
 use Rattle.zsrm.proofs.runs.run.Reads as run
 
 pub fresh-one : (κs : Lfts 2) (a : _) (r s : _) (e f : _) → fresh.Learnt κs a r e → fresh.Learnt κs a s f → r ≡ s
@@ -30,6 +31,9 @@ run-one κs a r s e f p q = (p .0 ∙ sym (q .0), p .1 ∙ sym (q .1))
 
 pub claim-one : (κs : Lfts 3) (a : _) (r s : _) (e f : _) → claim.Learnt κs a r e → claim.Learnt κs a s f → r ≡ s
 claim-one κs a r s e f p q = p ∙ sym q
+
+pub mend-one : (κs : Lfts 4) (a : _) (r s : _) (e f : _) → mend.Learnt κs a r e → mend.Learnt κs a s f → (r ≡ s) × (now (e .1 .1 .1 .1 .1 .0) ≡ now (f .1 .1 .1 .1 .1 .0))
+mend-one κs a r s e f p q = (p .0 ∙ sym (q .0), p .1 ∙ sym (q .1))
 
 pub verdict-one : (κs : Lfts 2) (a : _) (r s : _) (e f : _) → verdict.Learnt κs a r e → verdict.Learnt κs a s f → r ≡ s
 verdict-one κs a r s e f p q = p ∙ sym q

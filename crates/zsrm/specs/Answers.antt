@@ -10,6 +10,7 @@ use Rattle.tables.specs.declared.outcome.Outcome.the-variants.{Done, Refused}
 use Rattle.zsrm.specs.declared.answers.Ran.{Ran}
 use Rattle.zsrm.specs.declared.answers.Stepped.{Stepped}
 use Rattle.zsrm.specs.declared.answers.Claim.{Claim}
+use Rattle.zsrm.specs.declared.answers.Mended.{Mended}
 use Rattle.zsrm.specs.declared.answers.Judged.{Judged}
 use Rattle.zsrm.specs.declared.answers.Verdict.{Verdict}
 use Rattle.zsrm.specs.declared.answers.Verdicts.{Verdicts}
@@ -21,9 +22,11 @@ use Rattle.zsrm.specs.Record.{check11, check12, checkRoom, blank, fresh,
 use Rattle.zsrm.specs.Tick.{choice, readyWord, readyCount, endedWord, advanced}
 use Rattle.zsrm.specs.Run.{entriesBy, finalBy, runEntries, runRecord}
 use Rattle.zsrm.specs.Legal.{claim}
+use Rattle.zsrm.specs.Mend.{mend, mended}
 use Rattle.zsrm.specs.Verdict.{Part, emptyPart, part, verdict, witness}
 use Rattle.tables.specs.Tables.{Lists, lists}
 use Rattle.zsrm.specs.declared.answers.Claim.the-variants as claims
+use Rattle.zsrm.specs.declared.answers.Mended.the-variants as mends
 use Rattle.zsrm.specs.declared.answers.Verdict.the-variants as verdicts
 use Rattle.zsrm.specs.declared.answers.Witness.the-variants as witnesses
 
@@ -52,10 +55,14 @@ stepped g tie r =
 unfoldable pub freshAnswer : List ℕ → List ℕ → Ran
 freshAnswer tasks jobs = ran (checkLists (lists tasks jobs)) (fresh jobs)
 
--- The checks, in the order of their numbers: lists 2 to 8; step 11, 12; going on 10, 11, 12; run and claim 9, 10; verdict 11, 13; witness
--- 9, 10, 13. Of a schedule the number of its entries is checked.
+-- The checks, in the order of their numbers: lists 2 to 8; step 11, 12; going on 10, 11, 12; run and claim 9, 10; mending 9, 10 of either
+-- list; verdict 11, 13; witness 9, 10, 13. Of a schedule the number of its entries is checked.
 unfoldable pub checkSchedule : Lists → ℕ → ℕ → Outcome
 checkSchedule l horizon entries = before (checkLists l) (before (check9 horizon) (check10 entries horizon))
+
+-- 10 if either list has the wrong length: the claim, and the list that is lent for the result
+unfoldable pub checkMend : Lists → ℕ → ℕ → ℕ → Outcome
+checkMend l horizon entries lent = before (checkSchedule l horizon entries) (check10 lent horizon)
 
 unfoldable pub checkWitness : Lists → ℕ → ℕ → ℕ → Outcome
 checkWitness l horizon entries j = before (checkSchedule l horizon entries) (check13 (l .jobs) j)
@@ -97,6 +104,14 @@ module _ (g : Given) where
 
   unfoldable pub claimAnswer : ℕ → List ℕ → Claim
   claimAnswer horizon schedule = unless (checkSchedule (g .lists) horizon (length schedule)) claims.Refused (claim g schedule)
+
+  unfoldable pub mendAnswer : ℕ → List ℕ → List ℕ → Mended
+  mendAnswer horizon schedule lent = unless (checkMend (g .lists) horizon (length schedule) (length lent)) mends.Refused (mend g schedule)
+
+  -- what the second list, which is lent, holds afterwards: the mended schedule, or what it held
+  unfoldable pub mendSchedule : ℕ → List ℕ → List ℕ → List ℕ
+  mendSchedule horizon schedule lent =
+      unless (checkMend (g .lists) horizon (length schedule) (length lent)) (λ number place. lent) (mended g schedule)
 
   unfoldable pub verdictAnswer : Record → ℕ → Verdict
   verdictAnswer r j = unless (checkVerdict g r j) verdicts.Refused (verdict (g .lists) r j)

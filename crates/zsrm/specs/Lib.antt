@@ -3,6 +3,7 @@ pub mod Record
 pub mod Tick
 pub mod Run
 pub mod Legal
+pub mod Mend
 pub mod Verdict
 pub mod Answers
 pub mod Said

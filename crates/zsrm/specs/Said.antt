@@ -1,5 +1,6 @@
 -- Every answer said in numbers, and each under its name: what the promises speak in. A refusal is its number and its place, two numbers as
--- in every kind of answer (`refused` in tables, beside `done`); an answer about a late job is three, and so is "outside"; every other is one.
+-- in every kind of answer (`refused` in tables, beside `done`); an answer about a late job is three, and so are "outside" and "changed";
+-- every other is one.
 -- Document 01 has the numbers of "legal" and "not legal at t", the others are ours. Within one kind of answer equal numbers are equal
 -- answers (proofs/Laws/Said).
 use Prim.Native.Nat.{ℕ, _+_}
@@ -7,11 +8,13 @@ use mathlib.Core.Bool.{Bool, true, false}
 use mathlib.Core.List.{List, [], _∷_}
 use Rattle.zsrm.specs.declared.record.Standing.{Standing}
 use Rattle.zsrm.specs.declared.answers.Claim.{Claim}
+use Rattle.zsrm.specs.declared.answers.Mended.{Mended}
 use Rattle.zsrm.specs.declared.answers.Verdict.{Verdict}
 use Rattle.zsrm.specs.declared.answers.Witness.{Witness}
 use Rattle.tables.specs.Said.{refused}
 use Rattle.zsrm.specs.declared.record.Standing.the-variants as standings
 use Rattle.zsrm.specs.declared.answers.Claim.the-variants as claims
+use Rattle.zsrm.specs.declared.answers.Mended.the-variants as mends
 use Rattle.zsrm.specs.declared.answers.Verdict.the-variants as verdicts
 use Rattle.zsrm.specs.declared.answers.Witness.the-variants as witnesses
 
@@ -26,6 +29,18 @@ unfoldable pub claimSaid : Claim → List ℕ
 claimSaid (claims.Refused number place) = refused number place
 claimSaid claims.Legal = legal
 claimSaid (claims.NotLegal t) = notLegal t
+
+-- of a claim that is mended; changed is three numbers: the first changed tick, how many entries differ, and 0
+abbrev pub whole : List ℕ
+whole = 0 ∷ []
+
+abbrev pub changed : ℕ → ℕ → List ℕ
+changed first differing = first ∷ differing ∷ 0 ∷ []
+
+unfoldable pub mendedSaid : Mended → List ℕ
+mendedSaid (mends.Refused number place) = refused number place
+mendedSaid mends.Whole = whole
+mendedSaid (mends.Changed first differing) = changed first differing
 
 -- exact or "at least"
 abbrev pub flag : Bool → ℕ

@@ -47,6 +47,13 @@ pub enum Claim {
     NotLegal(u32),
 }
 
+// The answer to a claim that is mended: a legal one comes back whole; else the first changed tick, and how many entries differ.
+pub enum Mended {
+    Refused(u32, u32),
+    Whole,
+    Changed(u32, u32),
+}
+
 // The verdict on one job.
 pub enum Verdict {
     Refused(u32, u32),

@@ -66,7 +66,7 @@ fn is_instant_by(
 }
 
 // Whether the record's tick is a scheduling instant, the entry before it being given.
-fn is_instant(rec: Record, mode: Mode, last: u16, tasks: &[u32], jobs: &[u32]) -> bool
+pub(crate) fn is_instant(rec: Record, mode: Mode, last: u16, tasks: &[u32], jobs: &[u32]) -> bool
     requires { ⌜ jobCount (now jobs) ≤ 64 ⌝ }
     ensures { λ r. ⌜ r ≡ schedulingInstant (given mode (now (tasks .entry)) (now (jobs .entry))) rec last ⌝ }
 {

@@ -151,7 +151,7 @@ module _ (g : Given) (bytes : List ℕ) (r : Record) (last t : ℕ) (w : Replayi
     unfolding packedClaim
     reading-stops h =
         let n = length-numbers2 bytes in
-        let m = replaying-stops g (numbers2 bytes) r r last t e w (omega arith) (q ∙ sym (entry-at bytes t b)) h in
+        let m = replaying-stops g (numbers2 bytes) r last t e w (omega arith) (q ∙ sym (entry-at bytes t b)) h in
         ap packedClaim (rw (ne-eqb t (length (numbers2 bytes)) (λ z. omega arith)) at (claim-answer g (numbers2 bytes) _ m))
 
   pub reading-ends : t ≡ length bytes / 2 → 0 ≡ packedClaim (claim g (numbers2 bytes))

@@ -25,7 +25,7 @@ use Rattle.tables.specs.Tables.{idle, jobCount, jobPriority, Lists}
 use Rattle.zsrm.specs.Legal.{candidateOrIdle, legalEntry, schedulingInstant, instantBy, legalFrom, legalLength, claim, isLegal}
 use Rattle.zsrm.specs.Record.{consistent, doneAt, fresh, placeAt, standingAt}
 use Rattle.tables.specs.Refusals.{checkLists}
-use Rattle.zsrm.specs.Run.{replay, replayed}
+use Rattle.zsrm.specs.Run.{recordAt, recordBefore, replay, replayed}
 use Rattle.zsrm.specs.Tick.{advanced, candidate, eligible, readyAt, readyWord, someJob}
 use Rattle.zsrm.specs.Code.View.{hasPriority, view}
 use Rattle.zsrm.proofs.Laws.Consistent.{advanced-consistent, fresh-consistent}
@@ -33,7 +33,8 @@ use Rattle.zsrm.proofs.Laws.Places.{tick-advanced, tick-fresh}
 use Rattle.zsrm.proofs.Laws.Ready.{ready-of}
 use Rattle.zsrm.proofs.Laws.Tick.{candidate-eligible, some-candidate}
 use Rattle.zsrm.proofs.Laws.View.{candidate-view, seen}
-use Rattle.zsrm.proofs.Laws.Replay.{legal-goes-on, legal-may, legal-stops}
+use Rattle.zsrm.proofs.Laws.Replay.{legal-goes-on, legal-may, legal-stops, replayed-is}
+use Rattle.zsrm.proofs.Laws.Run.{record-more}
 use Rattle.tables.proofs.Laws.Accepted.{bounded, lists-few}
 
 -- the reasons for a scheduling instant, place by place
@@ -115,14 +116,14 @@ module _ (g : Given) (r : Record) (last e : ℕ) where
 -- a replay that has come to tick t, all entries before it being legal
 pub record Replaying (g : Given) (schedule : List ℕ) (r : Record) (last t : ℕ) : Type 0 where
   pub legal : legalLength g schedule ≡ t + legalFrom g r last (drop t schedule)
-  pub ends : replayed g schedule ≡ replay g r (drop t schedule)
+  pub here : r ≡ recordBefore g schedule t
   pub sound : consistent g r ≡ true
   pub time : r .tick ≡ t
 
 module _ (g : Given) (schedule : List ℕ) where
   pub replaying-none : (r : Record) → r ≡ fresh (g .lists .jobs) → Replaying g schedule r idle 0
-  unfolding legalLength replayed
-  replaying-none r q = record { legal = rw q (omega arith); ends = rw q; sound = rw q (fresh-consistent g); time = rw q (tick-fresh (g .lists .jobs)) }
+  unfolding legalLength recordBefore recordAt replay
+  replaying-none r q = record { legal = rw q (omega arith); here = q; sound = rw q (fresh-consistent g); time = rw q (tick-fresh (g .lists .jobs)) }
 
   -- the entry at t, and those behind it
   at : (t e : ℕ) → t < length schedule → e ≡ getD schedule t 0 → drop t schedule ≡ e ∷ drop (suc t) schedule
@@ -130,29 +131,34 @@ module _ (g : Given) (schedule : List ℕ) where
 
   pub replaying-more : (r next : Record) (last t e : ℕ) → Replaying g schedule r last t → t < length schedule → length schedule ≤ 16384 → e ≡ getD schedule t 0
       → legalEntry g r last e ≡ true → next ≡ advanced g r e → Replaying g schedule next e (t + 1)
-  unfolding replay
   replaying-more r next last t e w b limit q h n =
       let goes : legalFrom g r last (drop t schedule) ≡ suc (legalFrom g (advanced g r e) e (drop (suc t) schedule)) =
       ap (legalFrom g r last) (at t e b q) ∙ legal-goes-on g r last e (drop (suc t) schedule) h in
       record {
         legal = rw (add-one, n) (omega (arith, w .legal, goes));
-        ends = rw (add-one, n) (w .ends ∙ ap (replay g r) (at t e b q));
+        here = rw add-one (n ∙ ap₂ (advanced g) (w .here) q ∙ sym (record-more g schedule t b));
         sound = rw n (advanced-consistent g r e (omega (arith, w .time)) (legal-may g r last e h) (w .sound));
         time = rw (add-one, n) (tick-advanced g r e ∙ ap suc (w .time));
       }
 
   -- it stops at an entry that is not legal, or at the end
-  pub replaying-stops : (r x : Record) (last t e : ℕ) → Replaying g schedule r last t → t < length schedule → e ≡ getD schedule t 0 → legalEntry g r last e ≡ false
-      → ReplayedAs g schedule (record { ticks = t; «record» = x })
-  replaying-stops r x last t e w b q h =
+  pub replaying-stops : (r : Record) (last t e : ℕ) → Replaying g schedule r last t → t < length schedule → e ≡ getD schedule t 0 → legalEntry g r last e ≡ false
+      → ReplayedAs g schedule (record { ticks = t; «record» = r })
+  replaying-stops r last t e w b q h =
       let none : legalFrom g r last (drop t schedule) ≡ 0 = ap (legalFrom g r last) (at t e b q) ∙ legal-stops g r last e (drop (suc t) schedule) h in
-      record { ticks = omega (arith, w .legal, none); ends = λ all. absurd (omega (arith, w .legal, none)) }
+      let all : t ≡ legalLength g schedule = omega (arith, w .legal, none) in
+      record { ticks = all; here = w .here ∙ ap (recordBefore g schedule) all }
 
   pub replaying-ends : (r : Record) (last t : ℕ) → Replaying g schedule r last t → length schedule ≤ t → ReplayedAs g schedule (record { ticks = t; «record» = r })
-  unfolding legalFrom replay
+  unfolding legalFrom
   replaying-ends r last t w b =
       let none : drop t schedule ≡ [] = drop-of-length-le schedule b in
-      record { ticks = omega (arith, w .legal, ap (legalFrom g r last) none); ends = λ _. sym (w .ends ∙ ap (replay g r) none) }
+      let all : t ≡ legalLength g schedule = omega (arith, w .legal, ap (legalFrom g r last) none) in
+      record { ticks = all; here = w .here ∙ ap (recordBefore g schedule) all }
+
+-- where all entries are legal, the record is the one at the end
+pub replayed-whole : (g : Given) (schedule : List ℕ) (x : Replayed) → ReplayedAs g schedule x → legalLength g schedule ≡ length schedule → x .«record» ≡ replayed g schedule
+replayed-whole g schedule x p all = p .here ∙ replayed-is g schedule (legalLength g schedule) (sym all)
 
 -- what a replay's count answers to a claim
 pub claim-answer : (g : Given) (schedule : List ℕ) (x : Replayed) → ReplayedAs g schedule x

@@ -13,16 +13,18 @@ use Rattle.zsrm.specs.declared.tie.Tie.{Tie}
 use Rattle.zsrm.specs.declared.record.Standing.{Standing}
 use Rattle.zsrm.specs.declared.answers.Verdict.{Verdict}
 use mathlib.Core.Bool.{Bool, true, false, cond}
-use Rattle.zsrm.specs.Answers.{checkSchedule, checkStep, checkVerdict, checkWitness, claimAnswer, refusedStep, responseAnswer, stepAnswer, stepped, verdictAnswer, witnessAnswer, freshAnswer, ran}
+use Rattle.zsrm.specs.Answers.{checkMend, checkSchedule, checkStep, checkVerdict, checkWitness, claimAnswer, mendAnswer, refusedStep, responseAnswer, stepAnswer, stepped, verdictAnswer, witnessAnswer, freshAnswer, ran}
 use Rattle.tables.specs.Refusals.{unless, checkLists}
 use Rattle.zsrm.specs.Legal.{claim, isLegal, legalLength}
+use Rattle.zsrm.specs.Mend.{mend}
 use Rattle.zsrm.specs.Record.{blank, fresh, standingAt}
-use Rattle.zsrm.specs.Said.{claimSaid, verdictSaid, witnessSaid, standingSaid}
+use Rattle.zsrm.specs.Said.{claimSaid, mendedSaid, verdictSaid, witnessSaid, standingSaid}
 use Rattle.tables.specs.Said.{outcomeSaid}
 use Rattle.zsrm.specs.Given.{Given}
 use Rattle.zsrm.specs.Verdict.{emptyPart, verdict, witness, part, partTo, shownBy}
 use Rattle.zsrm.proofs.Laws.Answers.{accepted}
-use Rattle.zsrm.proofs.Laws.Said.{claim-said, verdict-said, witness-said, standing-said}
+use Rattle.zsrm.proofs.Laws.Mend.{mend-not-refused}
+use Rattle.zsrm.proofs.Laws.Said.{claim-said, mended-said, verdict-said, witness-said, standing-said}
 use Rattle.zsrm.proofs.Readings.{LeastIllegal, LegalAt, claim-legal, claim-not-legal, claim-not-refused, verdict-reads, witness-reads, Judged, alive-reads}
 use Rattle.tables.proofs.Laws.Refusals.{unless-refused, unless-done}
 use Rattle.tables.specs.Tables.{arrival, deadlineInstant, lists}
@@ -31,6 +33,7 @@ use Rattle.zsrm.proofs.Laws.Replay.{tick-replay}
 use Rattle.zsrm.proofs.Laws.Verdicts.{finishes-later, verdict-named}
 use Rattle.tables.proofs.Laws.Said.{outcome-said}
 use Rattle.zsrm.specs.declared.answers.Claim.the-variants as claims
+use Rattle.zsrm.specs.declared.answers.Mended.the-variants as mends
 use Rattle.zsrm.specs.declared.answers.Verdict.the-variants as verdicts
 use Rattle.zsrm.specs.declared.answers.Witness.the-variants as witnesses
 use Rattle.zsrm.specs.declared.record.Standing.the-variants as standings
@@ -95,6 +98,13 @@ unfolding claimAnswer claimSaid
 claim-refused g horizon schedule number place =
     refused-exactly claimSaid claim-said claims.Refused (λ n p m q e. cc) (λ n p. refl) (claim g schedule) (claim-not-refused g schedule)
     (checkSchedule (g .lists) horizon (length schedule)) number place
+
+pub mend-refused : (g : Given) (horizon : ℕ) (schedule lent : List ℕ) (number place : ℕ)
+    → mendedSaid (mendAnswer g horizon schedule lent) ≡ outcome.refused number place ↔ outcomeSaid (checkMend (g .lists) horizon (length schedule) (length lent)) ≡ outcome.refused number place
+unfolding mendAnswer mendedSaid
+mend-refused g horizon schedule lent number place =
+    refused-exactly mendedSaid mended-said mends.Refused (λ n p m q e. cc) (λ n p. refl) (mend g schedule) (mend-not-refused g schedule)
+    (checkMend (g .lists) horizon (length schedule) (length lent)) number place
 
 pub verdict-refused : (g : Given) (r : Record) (j number place : ℕ)
     → verdictSaid (verdictAnswer g r j) ≡ outcome.refused number place ↔ outcomeSaid (checkVerdict g r j) ≡ outcome.refused number place

@@ -3,7 +3,7 @@
 -- One tick is a step, and from the fresh record it is our run; from our run's record both tie choices go on alike. After a legal schedule
 -- Stay goes on legally: between scheduling instants it keeps the entry before, whoever chose that.
 use Prim.Native.Nat.{_+_, _<_, suc, zero, ℕ, _≤_}
-use mathlib.Core.Bool.{false, not, true, _||_}
+use mathlib.Core.Bool.{false, not, true}
 use mathlib.Core.List.{_++_, List, [], _∷_}
 use mathlib.Core.Logic.{inl, inr, _↔_, _⊎_}
 use mathlib.Core.Path.{ap, ap₂, refl, sym, _∙_, _≡_}
@@ -13,7 +13,7 @@ use native.Mathlib.Omega.{arith}
 use lib.Dec.{eqb, ltb}
 use lib.ListN.{drop, length, length-append}
 use borrow.Author.Tests.{eq-eqb, eqb-true, le-ltb, lt-ltb, ltb-false, ne-eqb, not-false}
-use Rattle.bits.proofs.Bools.{and-true, either, or-left, or-right}
+use Rattle.bits.proofs.Bools.{either}
 use Rattle.tables.specs.declared.outcome.Outcome.{Outcome}
 use Rattle.tables.specs.declared.outcome.Outcome.the-variants.{Done, Refused}
 use Rattle.zsrm.specs.declared.record.Record.{Record}
@@ -21,23 +21,23 @@ use Rattle.zsrm.specs.declared.tie.Tie.{Tie}
 use Rattle.zsrm.specs.declared.tie.Tie.the-variants.{Lowest, Stay}
 use Rattle.zsrm.specs.Answers.{checkGoOn, checkSchedule, checkStep, claimAnswer, goOnAnswer, goOnSchedule, ran, refusedStep, runAnswer, runSchedule, stepAnswer, stepped, stepsFrom}
 use Rattle.tables.specs.Refusals.{unless, before, check10, check9, checkLists, refuse}
-use Rattle.zsrm.specs.Legal.{candidateOrIdle, claim, legalEntry, schedulingInstant}
+use Rattle.zsrm.specs.Legal.{claim}
 use Rattle.zsrm.specs.Record.{blank, check11, check12, checkRoom, consistent, fresh}
 use Rattle.zsrm.specs.Run.{entriesBy, finalBy, replay, replayed, runEntries, runRecord}
 use Rattle.zsrm.specs.Given.{Given}
-use Rattle.tables.specs.Tables.{idle, jobCount, Lists}
+use Rattle.tables.specs.Tables.{Lists}
 use Rattle.zsrm.specs.Tick.{advanced, choice}
 use Rattle.zsrm.proofs.Laws.Answers.{accepted, LegalClaim, run-given, whole-legal}
 use Rattle.zsrm.proofs.Laws.Choice.{choice-may}
 use Rattle.zsrm.proofs.Laws.Exactly.{step-checked}
-use Rattle.zsrm.proofs.Laws.Consistent.{advanced-consistent, consistent-tick, fresh-consistent}
+use Rattle.zsrm.proofs.Laws.Consistent.{consistent-tick, fresh-consistent}
 use Rattle.zsrm.proofs.Laws.Going.{Going, final-more, final-none, going-more, going-none}
-use Rattle.zsrm.proofs.Laws.Places.{tick-advanced, tick-fresh}
+use Rattle.zsrm.proofs.Laws.Places.{tick-fresh}
 use Rattle.zsrm.proofs.Laws.Promises.{going-from}
 use Rattle.tables.proofs.Laws.Accepted.{lists-few}
 use Rattle.tables.proofs.Laws.Refusals.{before-first, before-last, before-second, refuse-fine, unless-done, unless-refused}
-use Rattle.zsrm.proofs.Laws.Replay.{AllLegal, legal-first, legal-goes-on, legal-may, legal-rest, tick-replay}
-use Rattle.zsrm.proofs.Laws.Run.{choice-steadfast, fresh-legal, length-entries, replay-append, run-by-parts, run-legal, stay-goes-on}
+use Rattle.zsrm.proofs.Laws.Replay.{tick-replay}
+use Rattle.zsrm.proofs.Laws.Run.{length-entries, replay-append, resumed-legal, run-by-parts, stay-resumes}
 use Rattle.zsrm.proofs.Laws.Ties.{runs-agree}
 use Rattle.zsrm.proofs.Laws.Verdicts.{replayed-consistent}
 use Rattle.tables.proofs.Laws.Said.{outcome-said}
@@ -321,38 +321,7 @@ module _ (g : Given) (tie : Tie) (horizon : ℕ) (lent : List ℕ) (ok : checkSc
           (ap (λ (es : List ℕ). ran Done (replay g r es)) e, e)
       go (Refused number place) q = (refl, refl)
 
--- after a legal schedule Stay goes on legally
-module _ (g : Given) (few : jobCount (g .lists .jobs) ≤ 64) where
-  -- after an entry that could run, Stay's is legal: between scheduling instants it is that entry
-  stay-legal : (r : Record) (e : ℕ) → candidateOrIdle g r e ≡ true → consistent g r ≡ true → legalEntry g (advanced g r e) e (choice g Stay (advanced g r e)) ≡ true
-  unfolding legalEntry
-  stay-legal r e may sound = and-true (choice-may g Stay after) (go (either (schedulingInstant g after e)))
-    where
-      after : Record
-      after = advanced g r e
-
-      go : (schedulingInstant g after e ≡ true) ⊎ (schedulingInstant g after e ≡ false) → (eqb (after .tick) 0 || schedulingInstant g after e || eqb (choice g Stay after) e) ≡ true
-      go (inl i) = or-left _ (or-right (eqb (after .tick) 0) i)
-      go (inr q) = or-right (eqb (after .tick) 0 || schedulingInstant g after e) (eq-eqb (choice g Stay after) e (stay-goes-on g few r e may sound q))
-
-  goes-on-from : (es : List ℕ) (n : ℕ) (r : Record) (p : ℕ) → r .tick + (length es + n) ≤ 16384 → consistent g r ≡ true → legalEntry g r p (choice g Stay r) ≡ true
-      → AllLegal g r p es → AllLegal g r p (es ++ entriesBy g (choice g Stay) (replay g r es) n)
-  unfolding replay
-  goes-on-from [] n r p b sound first legal = run-legal g (choice g Stay) (choice-steadfast g few Stay) n r p (omega arith) sound first
-  goes-on-from (e ∷ es) n r p b sound first legal =
-      let here = legal-first g r p e es legal in
-      let may = legal-may g r p e here in
-      legal-goes-on g r p e (es ++ entriesBy g (choice g Stay) (replay g (advanced g r e) es) n) here
-      ∙ ap suc
-      (goes-on-from es n (advanced g r e) e (rw tick-advanced (omega arith)) (advanced-consistent g r e (omega arith) may sound)
-      (stay-legal r e may sound) (legal-rest g r p e es legal))
-
-  schedule-goes-on : (es : List ℕ) (n : ℕ) → length es + n ≤ 16384 → AllLegal g (fresh (g .lists .jobs)) idle es
-      → AllLegal g (fresh (g .lists .jobs)) idle (es ++ entriesBy g (choice g Stay) (replayed g es) n)
-  unfolding replayed
-  schedule-goes-on es n b legal =
-      goes-on-from es n (fresh (g .lists .jobs)) idle (rw tick-fresh (omega arith)) (fresh-consistent g) (fresh-legal g (choice g Stay) (choice-steadfast g few Stay)) legal
-
+-- after a legal schedule
 module _ (g : Given) (horizon : ℕ) (schedule : List ℕ) (c : LegalClaim g horizon schedule) (ticks : ℕ) (lent : List ℕ) (whole : length lent ≡ ticks) (room : horizon + ticks ≤ 16384) where
   -- from its record there is room to go on, under either tie choice
   pub claim-accepted : checkGoOn g (replayed g schedule) ticks (length lent) ≡ Done
@@ -370,7 +339,7 @@ module _ (g : Given) (horizon : ℕ) (schedule : List ℕ) (c : LegalClaim g hor
       let ok : checkSchedule (g .lists) (horizon + ticks) (length (schedule ++ es)) ≡ Done = rw (a .lists, le-ltb 16384 (horizon + ticks) room, eq-eqb (length (schedule ++ es)) (horizon + ticks) n) in
       rw (go-on-given g Stay (replayed g schedule) ticks lent claim-accepted .1)
       (unless-done claims.Refused (claim g (schedule ++ es)) (checkSchedule (g .lists) (horizon + ticks) (length (schedule ++ es))) ok
-      ∙ whole-legal g (schedule ++ es) .1 (schedule-goes-on g (lists-few (g .lists) (a .lists)) schedule ticks (omega (arith, a .whole)) (c .legal)))
+      ∙ whole-legal g (schedule ++ es) .1 (resumed-legal g (choice g Stay) (stay-resumes g (lists-few (g .lists) (a .lists))) schedule ticks (omega (arith, a .whole)) (c .legal)))
 
   -- and the record is the one at the end of the whole
   pub record-goes-on : (tie : Tie) → goOnAnswer g tie (replayed g schedule) ticks lent .«record» ≡ replayed g (schedule ++ goOnSchedule g tie (replayed g schedule) ticks lent)

@@ -4,7 +4,6 @@ use mathlib.Core.Bool.{Bool, true}
 use mathlib.Core.List.{List, [], _∷_}
 use mathlib.Core.Logic.{Iff·trans, _↔_}
 use mathlib.Core.Path.{ap, refl, subst, sym, _∙_, _≡_}
-use native.Mathlib.Nat.{not-suc-le-zero}
 use native.Mathlib.Numerals.{add-one}
 use native.Mathlib.Omega.{arith}
 use lib.ListN.{drop, getD, length, length-drop, take}
@@ -25,12 +24,13 @@ use Rattle.tables.specs.Said.{outcomeSaid}
 use Rattle.zsrm.specs.Code.Claims.{FitsIn}
 use Rattle.zsrm.specs.Legal.{claim, isLegal, legalLength}
 use Rattle.zsrm.specs.Record.{blank, consistent, doneAt, fresh, standingAt, suspendedAt, waitedAt, check11, check12}
-use Rattle.zsrm.specs.Run.{entriesBy, replay, replayed, runEntries, runRecord, finalBy}
+use Rattle.zsrm.specs.Run.{replay, replayed, runEntries, runRecord, finalBy}
 use Rattle.zsrm.specs.Given.{Given}
 use Rattle.tables.specs.Tables.{arrival, criticality, deadline, execution, idle, jobCount, nominal, overload, period, priority, taskCount, offset}
-use Rattle.zsrm.specs.Tick.{advanced, candidate, choice}
+use Rattle.zsrm.specs.Tick.{candidate, choice}
 use Rattle.zsrm.specs.Topmost.{Topmost}
 use Rattle.zsrm.specs.Verdict.{Part, missed, part, verdict, witness}
+use Rattle.zsrm.proofs.Laws.Run.{getD-entries}
 use Rattle.zsrm.proofs.Laws.Answers.{accepted, is-legal, run-given, verdict-answered, whole-legal}
 use Rattle.zsrm.proofs.Laws.Consistent.{account-at, fresh-consistent, sound-at}
 use Rattle.zsrm.proofs.Laws.Exactly.{answered}
@@ -72,13 +72,6 @@ module _ (g : Given) (ok : checkLists (g .lists) ≡ Done) (tie : Tie) where
 
   going : (n : ℕ) → n ≤ 16384 → Going g (choice g tie) (fresh (g .lists .jobs)) (stepsFrom g tie (fresh (g .lists .jobs)) n) n
   going n b = going-from (fresh (g .lists .jobs)) (fresh-consistent g) n (rw tick-fresh (omega arith))
-
--- the entry that a run takes in tick t
-getD-entries : (g : Given) (pick : Record → ℕ) (r : Record) (n t : ℕ) → t < n → getD (entriesBy g pick r n) t idle ≡ pick (finalBy g pick r t)
-unfolding finalBy entriesBy replay
-getD-entries g pick r zero t l = absurd (not-suc-le-zero l)
-getD-entries g pick r (suc n) zero l = refl
-getD-entries g pick r (suc n) (suc t) l = getD-entries g pick (advanced g r (pick r)) n t (omega arith)
 
 -- our run, where nothing is refused
 pub run-checked : (g : Given) (tie : Tie) (horizon : ℕ) (lent : List ℕ) → outcomeSaid (runAnswer g tie horizon lent .outcome) ≡ outcome.done → checkSchedule (g .lists) horizon (length lent) ≡ Done

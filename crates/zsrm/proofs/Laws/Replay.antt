@@ -5,7 +5,7 @@ use Prim.Native.Nat.{_+_, _<_, suc, zero, ℕ, _≤_}
 use mathlib.Core.Bool.{false, true, Bool}
 use mathlib.Core.List.{List, [], _∷_}
 use mathlib.Core.Logic.{inl, inr, _⊎_}
-use mathlib.Core.Path.{ap, sym, _∙_, _≡_}
+use mathlib.Core.Path.{ap, refl, sym, _∙_, _≡_}
 use native.Mathlib.Nat.{not-suc-le-zero}
 use native.Mathlib.Omega.{arith}
 use lib.ListN.{getD, length, length-take, take}
@@ -88,6 +88,17 @@ module _ (g : Given) where
       go (yes l) m = clash (w .good (legalFrom g r p es) l) (b .bad (omega (arith, w .within)))
       go (no l) (yes m) = clash (b .good k m) (w .bad (omega (arith, b .within)))
       go (no l) (no m) = omega arith
+
+  -- the longest legal beginning is legal
+  pub legal-prefix : (r : Record) (p : ℕ) (es : List ℕ) → AllLegal r p (take (legalFrom g r p es) es)
+  unfolding legalFrom
+  legal-prefix r p [] = refl
+  legal-prefix r p (e ∷ es) = go (either (legalEntry g r p e)) (legal-prefix (advanced g r e) e es)
+    where
+      go : (legalEntry g r p e ≡ true) ⊎ (legalEntry g r p e ≡ false) → AllLegal (advanced g r e) e (take (legalFrom g (advanced g r e) e es) es)
+          → AllLegal r p (take (legalFrom g r p (e ∷ es)) (e ∷ es))
+      go (inl q) rest = rw (legal-goes-on r p e es q) (legal-goes-on r p e (take (legalFrom g (advanced g r e) e es) es) q ∙ ap suc rest)
+      go (inr q) rest = rw (legal-stops r p e es q)
 
   pub legal-at : (r : Record) (p : ℕ) (es : List ℕ) → AllLegal r p es → (t : ℕ) → t < length es → LegalIn r p es t ≡ true
   legal-at r p es c t h = beginning r p es .good t (omega arith)

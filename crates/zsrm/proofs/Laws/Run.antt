@@ -1,15 +1,16 @@
 -- A run is a legal claim, from the fresh record and from any consistent record at which its first entry is legal, for any way to
--- choose that stays with its choice between scheduling instants; our run's is one, under either tie choice. A run made in two parts is
--- the run.
-use Prim.Native.Nat.{_+_, _<_, suc, zero, ℕ, _≤_}
+-- choose that stays with its choice between scheduling instants; our run's is one, under either tie choice. A way to choose that stays with
+-- whatever entry was before, as Stay, goes on legally after every legal schedule. A run made in two parts is the run.
+use Prim.Native.Nat.{_+_, _-_, _<_, suc, zero, ℕ, _≤_}
 use mathlib.Core.Bool.{false, true, _||_}
 use mathlib.Core.List.{_++_, List, [], _∷_}
 use mathlib.Core.Logic.{inl, inr, _⊎_, ⊎-elim}
 use mathlib.Core.Path.{ap, refl, sym, _∙_, _≡_}
-use native.Mathlib.Nat.{suc-add, zero-add}
+use native.Mathlib.Nat.{not-suc-le-zero, suc-add, zero-add}
 use native.Mathlib.Omega.{arith}
 use lib.Dec.{eqb}
-use lib.ListN.{length}
+use lib.ListN.{getD, length, take}
+use lib.Seq.{take-at, take-suc}
 use borrow.Author.Tests.{eq-eqb}
 use Rattle.bits.proofs.Below.{some-false}
 use Rattle.bits.proofs.Bools.{and-true, either, or-left, or-right}
@@ -18,7 +19,7 @@ use Rattle.zsrm.specs.declared.tie.Tie.{Tie}
 use Rattle.zsrm.specs.declared.tie.Tie.the-variants.{Lowest, Stay}
 use Rattle.zsrm.specs.Legal.{candidateOrIdle, legalEntry, schedulingInstant, legalFrom}
 use Rattle.zsrm.specs.Record.{consistent, fresh}
-use Rattle.zsrm.specs.Run.{entriesBy, replay, runEntries}
+use Rattle.zsrm.specs.Run.{entriesBy, finalBy, recordAt, recordBefore, replay, replayed, runEntries}
 use Rattle.zsrm.specs.Given.{Given}
 use Rattle.tables.specs.Tables.{idle, jobCount}
 use Rattle.zsrm.specs.Tick.{advanced, candidate, choice, someJob}
@@ -27,44 +28,73 @@ use Rattle.zsrm.proofs.Laws.Choice.{choice-idle, choice-kept, choice-lo
 use Rattle.zsrm.proofs.Laws.Places.{previous-advanced, tick-advanced, tick-fresh}
 use Rattle.zsrm.proofs.Laws.Steady.{candidate-same, lowest-same}
 use Rattle.zsrm.proofs.Laws.Tick.{runs-or-idle}
-use Rattle.zsrm.proofs.Laws.Replay.{AllLegal, legal-goes-on}
+use Rattle.zsrm.proofs.Laws.Replay.{AllLegal, legal-first, legal-goes-on, legal-may, legal-rest}
 
 module _ (g : Given) where
-  -- a way to choose that takes what may be taken, and stays with it while the next tick is no scheduling instant
-  pub record Steadfast (pick : Record → ℕ) : Type 0 where
-    pub takes : (r : Record) → candidateOrIdle g r (pick r) ≡ true
-    pub stays : (r : Record) → consistent g r ≡ true → schedulingInstant g (advanced g r (pick r)) (pick r) ≡ false → pick (advanced g r (pick r)) ≡ pick r
+  -- an entry that may run, and is the one before again where the tick is no scheduling instant, is legal
+  pub legal-by : (r : Record) (last e : ℕ) → candidateOrIdle g r e ≡ true → (schedulingInstant g r last ≡ false → e ≡ last) → legalEntry g r last e ≡ true
+  unfolding legalEntry
+  legal-by r last e may stays = and-true may (go (either (schedulingInstant g r last)))
+    where
+      go : (schedulingInstant g r last ≡ true) ⊎ (schedulingInstant g r last ≡ false) → (eqb (r .tick) 0 || schedulingInstant g r last || eqb e last) ≡ true
+      go (inl i) = or-left _ (or-right (eqb (r .tick) 0) i)
+      go (inr q) = or-right (eqb (r .tick) 0 || schedulingInstant g r last) (eq-eqb e last (stays q))
 
-  module _ (pick : Record → ℕ) (s : Steadfast pick) where
-    next-legal : (r : Record) → consistent g r ≡ true → legalEntry g (advanced g r (pick r)) (pick r) (pick (advanced g r (pick r))) ≡ true
-    unfolding legalEntry
-    next-legal r sound = and-true (s .takes after) (go (either (schedulingInstant g after (pick r))))
-      where
-        after : Record
-        after = advanced g r (pick r)
+  -- at the fresh record it need only be one that may run
+  pub legal-at-fresh : (e : ℕ) → candidateOrIdle g (fresh (g .lists .jobs)) e ≡ true → legalEntry g (fresh (g .lists .jobs)) idle e ≡ true
+  unfolding legalEntry
+  legal-at-fresh e may = and-true may (or-left _ (or-left _ (eq-eqb (fresh (g .lists .jobs) .tick) 0 (tick-fresh (g .lists .jobs)))))
 
-        go : (schedulingInstant g after (pick r) ≡ true) ⊎ (schedulingInstant g after (pick r) ≡ false)
-            → (eqb (after .tick) 0 || schedulingInstant g after (pick r) || eqb (pick after) (pick r)) ≡ true
-        go (inl i) = or-left _ (or-right (eqb (after .tick) 0) i)
-        go (inr q) = or-right (eqb (after .tick) 0 || schedulingInstant g after (pick r)) (eq-eqb (pick after) (pick r) (s .stays r sound q))
+  module _ (pick : Record → ℕ) where
+    -- what is chosen after the entry e is legal, wherever e may run
+    abbrev pub LegalAfter : Record → ℕ → Type 0
+    LegalAfter r e = candidateOrIdle g r e ≡ true → consistent g r ≡ true → legalEntry g (advanced g r e) e (pick (advanced g r e)) ≡ true
+
+    -- a way to choose that begins legally, and stays legal after its own entries
+    pub record Steadfast : Type 0 where
+      pub begins : legalEntry g (fresh (g .lists .jobs)) idle (pick (fresh (g .lists .jobs))) ≡ true
+      pub stays : (r : Record) → LegalAfter r (pick r)
+
+    -- one that does so after every entry, whoever chose that
+    pub record Resuming : Type 0 where
+      pub begins : legalEntry g (fresh (g .lists .jobs)) idle (pick (fresh (g .lists .jobs))) ≡ true
+      pub resumes : (r : Record) (e : ℕ) → LegalAfter r e
+
+    resuming-stays : Resuming → Steadfast
+    resuming-stays s = record { begins = s .begins; stays = λ r. s .resumes r (pick r) }
 
     -- its run is legal from any consistent record at which its first entry is
-    pub run-legal : (n : ℕ) (r : Record) (p : ℕ) → r .tick + n ≤ 16384 → consistent g r ≡ true → legalEntry g r p (pick r) ≡ true
+    run-legal : Steadfast → (n : ℕ) (r : Record) (p : ℕ) → r .tick + n ≤ 16384 → consistent g r ≡ true → legalEntry g r p (pick r) ≡ true
         → AllLegal g r p (entriesBy g pick r n)
     unfolding legalFrom entriesBy
-    run-legal zero r p b sound first = refl
-    run-legal (suc n) r p b sound first =
+    run-legal s zero r p b sound first = refl
+    run-legal s (suc n) r p b sound first =
+        let may = legal-may g r p (pick r) first in
         legal-goes-on g r p (pick r) (entriesBy g pick (advanced g r (pick r)) n) first
         ∙ ap suc
-        (run-legal n (advanced g r (pick r)) (pick r) (rw tick-advanced (omega arith))
-        (advanced-consistent g r (pick r) (omega arith) (s .takes r) sound) (next-legal r sound))
+        (run-legal s n (advanced g r (pick r)) (pick r) (rw tick-advanced (omega arith))
+        (advanced-consistent g r (pick r) (omega arith) may sound) (s .stays r may sound))
 
-    pub fresh-legal : legalEntry g (fresh (g .lists .jobs)) idle (pick (fresh (g .lists .jobs))) ≡ true
-    unfolding legalEntry
-    fresh-legal = and-true (s .takes (fresh (g .lists .jobs))) (or-left _ (or-left _ (eq-eqb (fresh (g .lists .jobs) .tick) 0 (tick-fresh (g .lists .jobs)))))
+    pub run-legal-fresh : Steadfast → (horizon : ℕ) → horizon ≤ 16384 → AllLegal g (fresh (g .lists .jobs)) idle (entriesBy g pick (fresh (g .lists .jobs)) horizon)
+    run-legal-fresh s h b = run-legal s h (fresh (g .lists .jobs)) idle (rw tick-fresh (omega arith)) (fresh-consistent g) (s .begins)
 
-    pub run-legal-fresh : (horizon : ℕ) → horizon ≤ 16384 → AllLegal g (fresh (g .lists .jobs)) idle (entriesBy g pick (fresh (g .lists .jobs)) horizon)
-    run-legal-fresh h b = run-legal h (fresh (g .lists .jobs)) idle (rw tick-fresh (omega arith)) (fresh-consistent g) fresh-legal
+    -- and after legal entries, where it resumes
+    resumed-from : Resuming → (es : List ℕ) (n : ℕ) (r : Record) (p : ℕ) → r .tick + (length es + n) ≤ 16384 → consistent g r ≡ true → legalEntry g r p (pick r) ≡ true
+        → AllLegal g r p es → AllLegal g r p (es ++ entriesBy g pick (replay g r es) n)
+    unfolding replay
+    resumed-from s [] n r p b sound first legal = run-legal (resuming-stays s) n r p (omega arith) sound first
+    resumed-from s (e ∷ es) n r p b sound first legal =
+        let here = legal-first g r p e es legal in
+        let may = legal-may g r p e here in
+        legal-goes-on g r p e (es ++ entriesBy g pick (replay g (advanced g r e) es) n) here
+        ∙ ap suc
+        (resumed-from s es n (advanced g r e) e (rw tick-advanced (omega arith)) (advanced-consistent g r e (omega arith) may sound)
+        (s .resumes r e may sound) (legal-rest g r p e es legal))
+
+    pub resumed-legal : Resuming → (es : List ℕ) (n : ℕ) → length es + n ≤ 16384 → AllLegal g (fresh (g .lists .jobs)) idle es
+        → AllLegal g (fresh (g .lists .jobs)) idle (es ++ entriesBy g pick (replayed g es) n)
+    unfolding replayed
+    resumed-legal s es n b legal = resumed-from s es n (fresh (g .lists .jobs)) idle (rw tick-fresh (omega arith)) (fresh-consistent g) (s .begins) legal
 
   -- our run's choice is one
   module _ (few : jobCount (g .lists .jobs) ≤ 64) where
@@ -94,8 +124,22 @@ module _ (g : Given) where
         let e = choice g Lowest r in
         choice-lowest g (advanced g r e) ∙ lowest-same g r e e few sound still ∙ sym (choice-lowest g r)
 
-    pub choice-steadfast : (tie : Tie) → Steadfast (choice g tie)
-    choice-steadfast tie = record { takes = choice-may g tie; stays = choice-stays tie }
+    choice-begins : (tie : Tie) → legalEntry g (fresh (g .lists .jobs)) idle (choice g tie (fresh (g .lists .jobs))) ≡ true
+    choice-begins tie = legal-at-fresh (choice g tie (fresh (g .lists .jobs))) (choice-may g tie (fresh (g .lists .jobs)))
+
+    choice-steadfast : (tie : Tie) → Steadfast (choice g tie)
+    choice-steadfast tie =
+        record {
+          begins = choice-begins tie;
+          stays = λ r may sound. legal-by (advanced g r (choice g tie r)) (choice g tie r) _ (choice-may g tie (advanced g r (choice g tie r))) (choice-stays tie r sound);
+        }
+
+    pub stay-resumes : Resuming (choice g Stay)
+    stay-resumes =
+        record {
+          begins = choice-begins Stay;
+          resumes = λ r e may sound. legal-by (advanced g r e) e _ (choice-may g Stay (advanced g r e)) (stay-goes-on r e may sound);
+        }
 
   pub our-run-legal : jobCount (g .lists .jobs) ≤ 64 → (tie : Tie) (horizon : ℕ) → horizon ≤ 16384 → AllLegal g (fresh (g .lists .jobs)) idle (runEntries g tie horizon)
   unfolding runEntries
@@ -107,6 +151,11 @@ module _ (g : Given) where
   replay-append r [] ys = refl
   replay-append r (x ∷ xs) ys = replay-append (advanced g r x) xs ys
 
+  -- the record before the next tick
+  pub record-more : (es : List ℕ) (t : ℕ) → t < length es → recordBefore g es (suc t) ≡ advanced g (recordBefore g es t) (getD es t 0)
+  unfolding recordBefore recordAt replay
+  record-more es t b = ap (replay g (fresh (g .lists .jobs))) (take-suc es t 0 b) ∙ replay-append (fresh (g .lists .jobs)) (take t es) (getD es t 0 ∷ [])
+
   pub run-by-parts : (pick : Record → ℕ) (a b : ℕ) (r : Record)
       → entriesBy g pick r (a + b) ≡ entriesBy g pick r a ++ entriesBy g pick (replay g r (entriesBy g pick r a)) b
   unfolding entriesBy replay
@@ -117,6 +166,18 @@ module _ (g : Given) where
   unfolding entriesBy
   length-entries pick zero r = refl
   length-entries pick (suc n) r = ap suc (length-entries pick n (advanced g r (pick r)))
+
+  -- the entry that a run takes in tick t, and its first ones
+  pub getD-entries : (pick : Record → ℕ) (r : Record) (n t : ℕ) → t < n → getD (entriesBy g pick r n) t idle ≡ pick (finalBy g pick r t)
+  unfolding finalBy entriesBy replay
+  getD-entries pick r zero t l = absurd (not-suc-le-zero l)
+  getD-entries pick r (suc n) zero l = refl
+  getD-entries pick r (suc n) (suc t) l = getD-entries pick (advanced g r (pick r)) n t (omega arith)
+
+  pub take-entries : (pick : Record → ℕ) (n t : ℕ) (r : Record) → t ≤ n → take t (entriesBy g pick r n) ≡ entriesBy g pick r t
+  take-entries pick n t r l =
+      let all : n ≡ t + (n - t) = omega arith in
+      ap (λ (m : ℕ). take t (entriesBy g pick r m)) all ∙ ap (take t) (run-by-parts pick t (n - t) r) ∙ take-at (entriesBy g pick r t) _ t (length-entries pick t r)
 
   pub length-run : (tie : Tie) (horizon : ℕ) → length (runEntries g tie horizon) ≡ horizon
   unfolding runEntries

@@ -7,11 +7,13 @@ use native.Mathlib.Omega.{arith}
 use lib.Dec.{eqb, ltb}
 use borrow.Author.Tests.{le-ltb}
 use Rattle.zsrm.specs.declared.answers.Claim.{Claim}
+use Rattle.zsrm.specs.declared.answers.Mended.{Mended}
 use Rattle.zsrm.specs.declared.answers.Verdict.{Verdict}
 use Rattle.zsrm.specs.declared.answers.Witness.{Witness}
 use Rattle.zsrm.specs.declared.record.Standing.{Standing}
-use Rattle.zsrm.specs.Said.{claimSaid, finishedAt, standingSaid, verdictSaid, witnessSaid}
+use Rattle.zsrm.specs.Said.{claimSaid, finishedAt, mendedSaid, standingSaid, verdictSaid, witnessSaid}
 use Rattle.zsrm.specs.declared.answers.Claim.the-variants as claims
+use Rattle.zsrm.specs.declared.answers.Mended.the-variants as mends
 use Rattle.zsrm.specs.declared.answers.Verdict.the-variants as verdicts
 use Rattle.zsrm.specs.declared.answers.Witness.the-variants as witnesses
 use Rattle.zsrm.specs.declared.record.Standing.the-variants as standings
@@ -46,6 +48,18 @@ claim-said = told claimSaid claimOf again
     again (claims.Refused n p) = refl
     again claims.Legal = refl
     again (claims.NotLegal t) = not-legal-back claims.NotLegal (λ x. claims.Legal) t
+
+mendedOf : List ℕ → Mended
+mendedOf = back mends.Refused (λ x. mends.Whole) (λ x y z. mends.Changed x y)
+
+pub mended-said : (a b : Mended) → mendedSaid a ≡ mendedSaid b → a ≡ b
+unfolding mendedSaid mendedOf back
+mended-said = told mendedSaid mendedOf again
+  where
+    again : (a : Mended) → mendedOf (mendedSaid a) ≡ a
+    again (mends.Refused n p) = refl
+    again mends.Whole = refl
+    again (mends.Changed first differing) = refl
 
 verdictOf : List ℕ → Verdict
 verdictOf = back verdicts.Refused (λ x. cond (eqb x 0) verdicts.Met (cond (eqb x 2) verdicts.Ended verdicts.Open)) (λ x. verdicts.Late)

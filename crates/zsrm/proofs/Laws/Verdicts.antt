@@ -31,6 +31,7 @@ use Rattle.zsrm.specs.Tick.{advanced, alive, standingAfter, unfinished}
 use Rattle.zsrm.specs.Verdict.{answered, part, partTo, shownBy, verdict, witness, blamed, isOutside, missed, outsider}
 use Rattle.zsrm.proofs.Laws.Answers.{Accepted, accepted}
 use Rattle.zsrm.proofs.Laws.Assumption.{named-outside}
+use Rattle.zsrm.proofs.Laws.Claims.{replayed-whole}
 use Rattle.zsrm.proofs.Laws.Consistent.{Sound, advanced-consistent, fresh-consistent, sound-at}
 use Rattle.bits.proofs.Bools.{clash}
 use Rattle.zsrm.proofs.Laws.Places.{standing-advanced, standing-alive, tick-advanced, tick-fresh}
@@ -117,7 +118,7 @@ witness-answer g schedule j x v i m w p qv qi qm qw =
     go : (b : Bool) → eqb n (length schedule) ≡ b → answered b n o k v ≡ answered b n o k (verdict (g .lists) (replayed g schedule) j)
     go false e = refl
     go true e =
-        ap (answered true n o k) (qv ∙ ap (λ (r : Record). verdict (g .lists) r j) (p .ends (eqb-true n (length schedule) e)))
+        ap (answered true n o k) (qv ∙ ap (λ (r : Record). verdict (g .lists) r j) (replayed-whole g schedule x p (eqb-true n (length schedule) e)))
 
 -- the record before each tick of a legal schedule, and the one at its end, is consistent
 pub legal-consistent : (g : Given) (schedule : List ℕ) → length schedule ≤ 16384 → AllLegal g (fresh (g .lists .jobs)) idle schedule → (t : ℕ) → consistent g (recordBefore g schedule t) ≡ true
@@ -156,7 +157,7 @@ part-answer g schedule j x p =
     go : (k : Bool) → eqb (legalLength g schedule) (length schedule) ≡ k
         → shownBy k (partTo (arrival (g .lists .jobs) j) schedule (standingAt (x .«record») j)) ≡ shownBy k (partTo (arrival (g .lists .jobs) j) schedule (standingAt (replayed g schedule) j))
     go false e = refl
-    go true e = ap (λ (r : Record). partTo (arrival (g .lists .jobs) j) schedule (standingAt r j)) (p .ends (eqb-true (legalLength g schedule) (length schedule) e))
+    go true e = ap (λ (r : Record). partTo (arrival (g .lists .jobs) j) schedule (standingAt r j)) (replayed-whole g schedule x p (eqb-true (legalLength g schedule) (length schedule) e))
 
 -- all verdicts: what is checked once and what is checked of each job are the verdict's checks
 before-assoc : (a b c : Outcome) → before (before a b) c ≡ before a (before b c)

@@ -1,7 +1,7 @@
--- How the code checks an entry of a claim, from the view of the record, and what it asks before it shows a part. No contract that callers
--- see cites it; the laws in proofs/Laws/Claims join it to "Legal schedules".
+-- How the code checks an entry of a claim, from the view of the record, and what it asks before it mends, or shows a part. No contract that
+-- callers see cites it; the laws in proofs/Laws/Claims and Mend join it to "Legal schedules".
 use Prim.Native.Nat.{ℕ, _≤_}
-use mathlib.Core.Bool.{Bool, _&&_, _||_}
+use mathlib.Core.Bool.{Bool, true, _&&_, _||_}
 use mathlib.Core.List.{List}
 use mathlib.Core.Path.{_≡_}
 use lib.ListN.{length}
@@ -10,13 +10,16 @@ use Rattle.bits.specs.Below.{greatest, bit}
 use Rattle.zsrm.specs.declared.record.Standing.{Standing}
 use Rattle.zsrm.specs.declared.record.Standing.the-variants.{NotArrived, Unfinished, Finished, Ended}
 use Rattle.zsrm.specs.declared.record.Place.{Place}
+use Rattle.zsrm.specs.declared.record.Record.{Record}
 use Rattle.zsrm.specs.declared.tick.View.{View}
 use Rattle.zsrm.specs.declared.claims.Replayed.{Replayed}
 use Rattle.zsrm.specs.Given.{Given}
 use Rattle.tables.specs.Tables.{idle, jobCount, arrival, jobNominal, zeroSlackInstant, Lists}
 use Rattle.zsrm.specs.Code.View.{hasPriority}
-use Rattle.zsrm.specs.Run.{replayed}
-use Rattle.zsrm.specs.Legal.{finishedAt, legalLength}
+use Rattle.zsrm.specs.Run.{recordBefore}
+use Rattle.zsrm.specs.Record.{consistent}
+use Rattle.zsrm.specs.Legal.{finishedAt, legalEntry, legalLength}
+use Rattle.zsrm.specs.Mend.{mendChoice}
 
 module _ (l : Lists) where
   -- job j, at the place p, makes tick t a scheduling instant, the entry before being last
@@ -31,10 +34,15 @@ module _ (l : Lists) where
       (ltb e (jobCount (l .jobs)) && hasPriority l (v .eligible) (greatest 64 (bit (v .ready)) 64) e)
       || (eqb e idle && eqb (v .ready) 0)
 
--- how many entries replaying a schedule finds legal, and where all are, the record at its end
+-- how many entries replaying a schedule finds legal, and the record behind them
 pub record ReplayedAs (g : Given) (schedule : List ℕ) (r : Replayed) : Type 0 where
   pub ticks : r .ticks ≡ legalLength g schedule
-  pub ends : legalLength g schedule ≡ length schedule → r .«record» ≡ replayed g schedule
+  pub here : r .«record» ≡ recordBefore g schedule (legalLength g schedule)
+
+-- mending may go on from a record: it is consistent, and the entry that is chosen there is legal
+pub record Mendable (g : Given) (r : Record) : Type 0 where
+  pub sound : consistent g r ≡ true
+  pub first : legalEntry g r (r .previous) (mendChoice g r) ≡ true
 
 -- a finishing instant that lies within the schedule, at or after arrival: what the code asks before it takes the part
 abbrev pub FitsIn : ℕ → List ℕ → Standing → Type 0

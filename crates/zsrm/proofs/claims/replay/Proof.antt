@@ -48,7 +48,7 @@ returns c =
     let x = c .before in
     let at = x .before .before .before .before in
     let a = at .before .before .before .before .before .args in
-    replaying-stops (given (a .mode) (a .tasks .now) (a .jobs .now)) (a .schedule .now) (at .loop .rec) _ (at .loop .last) (at .loop .t) _ (at .loop .inv .1) (x .before .before .before .loop-test .taken) refl (sym (x .is-legal .ensures) ∙ c .if1 .left)
+    replaying-stops (given (a .mode) (a .tasks .now) (a .jobs .now)) (a .schedule .now) (at .loop .rec) (at .loop .last) (at .loop .t) _ (at .loop .inv .1) (x .before .before .before .loop-test .taken) refl (sym (x .is-legal .ensures) ∙ c .if1 .left)
 
 returns-2 : tie.Need-returns-2 Inv-loop μ-loop
 returns-2 c =

@@ -13,6 +13,7 @@ use Rattle.zsrm.specs.Code.Claims.{FitsIn}
 use Rattle.zsrm.specs.Legal.{legalLength}
 use Rattle.zsrm.specs.Verdict.{Part, Shows}
 use Rattle.zsrm.specs.Answers.{responseAnswer}
+use Rattle.zsrm.proofs.Laws.Claims.{replayed-whole}
 use Rattle.zsrm.proofs.Laws.Verdicts.{part-answer, part-fits, witnessed}
 use Rattle.zsrm.proofs.judging.response.Statement.{statement}
 use Rattle.zsrm.proofs.judging.response.Tie as tie
@@ -34,7 +35,7 @@ replayed-part-requires c κs =
     let p = x .replay .ensures in (
       omega (arith, w .named .job, w .named .few),
       λ legal. let all = sym (p .ticks) ∙ eqb-true _ _ legal in
-          subst (λ (r : Record). FitsIn (arrival (a .jobs .now) (a .job)) (a .schedule .now) (standingAt r (a .job))) (sym (p .ends all))
+          subst (λ (r : Record). FitsIn (arrival (a .jobs .now) (a .job)) (a .schedule .now) (standingAt r (a .job))) (sym (replayed-whole _ _ _ p all))
           (part-fits _ (a .schedule .now) (a .job) (w .limit) (omega (arith, w .named .job, w .named .few)) all),
     )
 
