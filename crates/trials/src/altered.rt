@@ -1,14 +1,14 @@
 // Records with one change, or with many at once, from which a step, some ticks and a verdict are asked: most with one are not consistent;
 // of those with many a good part is, and no run leads there.
 ghost use Prim.Native.Nat.{_<_};
-use crate::draw::draw;
-use crate::list::ARRIVAL;
-use crate::list::Case;
-use crate::list::EXECUTION;
-use crate::list::IDLE;
-use crate::list::job;
-use crate::list::least;
-use crate::list::less;
+use drawn::draw::draw;
+use drawn::list::ARRIVAL;
+use drawn::list::Case;
+use drawn::list::EXECUTION;
+use drawn::list::IDLE;
+use drawn::list::job;
+use drawn::list::least;
+use drawn::list::less;
 use zsrm::Place;
 use zsrm::Record;
 use zsrm::Standing;

@@ -4,11 +4,11 @@ use crate::leap::chosen;
 use crate::leap::fixed_instant;
 use crate::leap::leap;
 use crate::leap::may;
-use crate::list::IDLE;
-use crate::list::Line;
-use crate::list::entry_at;
-use crate::list::less;
 use crate::records::begin;
+use drawn::list::IDLE;
+use drawn::list::Line;
+use drawn::list::entry_at;
+use drawn::list::less;
 
 pub(crate) fn entry_of(x: usize) -> u16 {
     if x < 64 { x as u16 } else { IDLE }

@@ -1,21 +1,10 @@
 // The groups of trials: so many inputs of a kind in a mode, each numbered, the number being the seed of all that is drawn for it.
 use crate::altered::altered;
 use crate::claims::try_claims;
-use crate::damage::damaged;
 use crate::day::a_day;
 use crate::day::try_day;
-use crate::draw::draw;
 use crate::evening::try_evening;
-use crate::inputs::Input;
-use crate::inputs::long;
-use crate::inputs::make_input;
-use crate::inputs::short;
-use crate::judge::FINE;
-use crate::judge::schedule_key;
-use crate::judge::ticks_of;
-use crate::list::Case;
-use crate::list::front;
-use crate::list::no_line;
+use crate::others::try_others;
 use crate::parts::try_any;
 use crate::parts::try_parts;
 use crate::runs::count_ticks;
@@ -24,16 +13,28 @@ use crate::runs::try_run;
 use crate::runs::try_step;
 use crate::runs::try_steps;
 use crate::runs::try_verdicts;
-use crate::tally::CALLS;
-use crate::tally::DIFFERENCES;
-use crate::tally::INPUTS;
-use crate::tally::Tally;
-use crate::tally::add;
-use crate::tally::count;
-use crate::tally::nothing;
-use crate::tally::print_input;
 use crate::tally::report;
-use crate::tally::text;
+use drawn::damage::damaged;
+use drawn::draw::draw;
+use drawn::inputs::Input;
+use drawn::inputs::long;
+use drawn::inputs::make_input;
+use drawn::inputs::short;
+use drawn::judge::FINE;
+use drawn::judge::schedule_key;
+use drawn::judge::ticks_of;
+use drawn::list::Case;
+use drawn::list::front;
+use drawn::list::no_line;
+use drawn::tally::CALLS;
+use drawn::tally::DIFFERENCES;
+use drawn::tally::INPUTS;
+use drawn::tally::Tally;
+use drawn::tally::add;
+use drawn::tally::count;
+use drawn::tally::nothing;
+use drawn::tally::print_input;
+use drawn::tally::text;
 
 // The kinds of trials.
 const SMALL: u32 = 0;
@@ -54,6 +55,8 @@ const PLANTER: u32 = 7;
 
 const EVENING: u32 = 8;
 
+const OTHERS: u32 = 9;
+
 fn title(kind: u32) {
     match kind {
         SMALL => text(b"small"),
@@ -64,7 +67,8 @@ fn title(kind: u32) {
         ALTERED => text(b"altered records"),
         ALTERED_ALL_OVER => text(b"records altered all over"),
         PLANTER => text(b"days of the planter"),
-        _ => text(b"evenings"),
+        EVENING => text(b"evenings"),
+        _ => text(b"other people's jobs"),
     }
 }
 
@@ -142,6 +146,8 @@ fn try_case(t: &mut Tally, kind: u32, case: Case, tasks: &[u32], jobs: &[u32]) {
         try_day(t, case, tasks, jobs);
     } else if kind == EVENING {
         try_evening(t, case, tasks);
+    } else if kind == OTHERS {
+        try_others(t, case, tasks, jobs);
     } else {
         try_altered(t, case, tasks, jobs, kind == ALTERED_ALL_OVER);
     }
@@ -201,7 +207,7 @@ fn group(sum: &mut Tally, kind: u32, se: bool) {
 // Every group in both modes, and the sum of them all.
 pub(crate) fn all() {
     let mut sum = nothing();
-    for kind in 0..9 {
+    for kind in 0..10 {
         group(&mut sum, kind, false);
         group(&mut sum, kind, true);
     }

@@ -1,23 +1,20 @@
 // A simulator that leaps from one instant at which something can change to the next: an arrival, a zero-slack instant, a finish, in SE
 // the reaching of C. It keeps what each job has left, holds the suspended back by a bar, and knows from the start when a job without
 // work finishes.
-use crate::list::ARRIVAL;
-use crate::list::CRITICALITY;
-use crate::list::EXECUTION;
-use crate::list::NOMINAL;
-use crate::list::OFFSET;
-use crate::list::PRIORITY;
-use crate::list::job;
-use crate::list::less;
-use crate::list::of;
-use crate::list::wide;
+use drawn::answers::STAYING;
+use drawn::list::ARRIVAL;
+use drawn::list::CRITICALITY;
+use drawn::list::EXECUTION;
+use drawn::list::NOMINAL;
+use drawn::list::OFFSET;
+use drawn::list::PRIORITY;
+use drawn::list::job;
+use drawn::list::less;
+use drawn::list::of;
+use drawn::list::wide;
 
-// The ways to choose among equals: the first, the job that ran before where it still may, and two that are not our run's: the last, and the
-// way of mending, whoever ran before where no instant falls on the present, else the first.
-pub(crate) const LOWEST: u32 = 0;
-
-pub(crate) const STAYING: u32 = 1;
-
+// Two ways to choose among equals that are not our run's: the last, and the way of mending, whoever ran before where no instant falls on the
+// present, else the first.
 pub(crate) const LAST: u32 = 2;
 
 pub(crate) const MENDING: u32 = 3;

@@ -1,12 +1,12 @@
 // Schedules made from a run's by one change: an entry, an idle tick, two jobs or two ticks exchanged, an entry repeated and the rest one
 // tick late, a number that is no job. Some are legal still, where jobs tie or nothing is changed.
 ghost use Prim.Native.Nat.{_<_};
-use crate::draw::draw;
 use crate::flight::entry_of;
 use crate::flight::fill;
-use crate::list::IDLE;
-use crate::list::Line;
-use crate::list::entry_at;
+use drawn::draw::draw;
+use drawn::list::IDLE;
+use drawn::list::Line;
+use drawn::list::entry_at;
 
 fn exchanged(entry: u16, a: u16, b: u16) -> u16 {
     if entry == a {

@@ -1,29 +1,29 @@
 // Claims mended, against a mend of the simulator's own: it flies on from where the claim's legal beginning ends.
 use crate::answers::changes_of;
-use crate::answers::mode_of;
 use crate::answers::of_mended;
-use crate::answers::told;
 use crate::claims::claim_answer;
-use crate::draw::draw;
 use crate::flight::Replay;
 use crate::flight::fly_on;
-use crate::judge::FINE;
-use crate::judge::late;
-use crate::judge::schedule_key;
 use crate::leap::MENDING;
-use crate::list::Case;
-use crate::list::Line;
-use crate::list::entry_at;
-use crate::list::least;
-use crate::list::less;
-use crate::list::no_line;
 use crate::runs::begin_alike;
 use crate::tally::ENTRIES_CHANGED;
 use crate::tally::MEND;
 use crate::tally::MENDED_UNLIKE_OURS;
-use crate::tally::Tally;
-use crate::tally::add;
-use crate::tally::note;
+use drawn::answers::mode_of;
+use drawn::answers::told;
+use drawn::draw::draw;
+use drawn::judge::FINE;
+use drawn::judge::late;
+use drawn::judge::schedule_key;
+use drawn::list::Case;
+use drawn::list::Line;
+use drawn::list::entry_at;
+use drawn::list::least;
+use drawn::list::less;
+use drawn::list::no_line;
+use drawn::tally::Tally;
+use drawn::tally::add;
+use drawn::tally::note;
 use zsrm::Mended;
 
 fn copy_line(line: &[u16], out: &mut Line) {

@@ -2,12 +2,12 @@
 use crate::answers::of_standing;
 use crate::flight::entry_of;
 use crate::leap::Sim;
-use crate::list::ARRIVAL;
-use crate::list::EXECUTION;
-use crate::list::IDLE;
-use crate::list::job;
-use crate::list::less;
-use crate::list::wide;
+use drawn::list::ARRIVAL;
+use drawn::list::EXECUTION;
+use drawn::list::IDLE;
+use drawn::list::job;
+use drawn::list::less;
+use drawn::list::wide;
 use zsrm::Place;
 use zsrm::Record;
 use zsrm::Standing;
@@ -31,16 +31,21 @@ pub(crate) fn holds(rec: Record, jobs: &[u32], s: Sim) -> bool {
     same
 }
 
+// Whether two places hold the same, number for number.
+pub(crate) fn same_place(p: Place, q: Place) -> bool {
+    let first = p.standing;
+    let second = q.standing;
+    let times = (p.done == q.done) & (p.suspended == q.suspended) & (p.waited == q.waited);
+    times & (of_standing(first) == of_standing(second))
+}
+
 // Whether two records are the same, number for number.
 pub(crate) fn same_record(a: Record, b: Record) -> bool {
     let mut same = (a.tick == b.tick) & (a.previous == b.previous);
     for j in 0..64 {
         let p = a.places[j];
         let q = b.places[j];
-        let first = p.standing;
-        let second = q.standing;
-        let times = (p.done == q.done) & (p.suspended == q.suspended) & (p.waited == q.waited);
-        same = times & (of_standing(first) == of_standing(second)) & same;
+        same = same_place(p, q) & same;
     }
     same
 }
