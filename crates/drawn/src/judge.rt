@@ -20,7 +20,7 @@ use crate::list::wide;
 // Nothing is broken.
 pub const FINE: u32 = 655360000;
 
-// The ranks of 2, of the tasks, two to a task, of 5, of the jobs, three to a job, and of 9 to 13, each above the ranks before it.
+// The ranks of 2, of the tasks, two to a task, of 5, of the jobs, three to a job, and of 9 and those after it, each above the ranks before it.
 const TASKS: u32 = 2;
 
 const FIRST_TASK: u32 = 100;
@@ -40,9 +40,9 @@ fn when(broken: bool, rank: u32, number: u32, place: u32) -> u32 {
     }
 }
 
-// The key of one of the rules 9 to 13.
+// The key of one of the rules from 9 on.
 pub fn late(broken: bool, number: u32) -> u32 {
-    when(broken, LATER + number % 16, number, 0)
+    when(broken, LATER + number % 32, number, 0)
 }
 
 // The answer that goes with a key.

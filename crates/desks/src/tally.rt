@@ -1,0 +1,37 @@
+// The calls that are counted, and what is written of them. Each call has 64 counts.
+use drawn::tally::Tally;
+use drawn::tally::line;
+use drawn::tally::totals;
+
+pub(crate) const BUILD: usize = 64;
+
+pub(crate) const BETWEEN: usize = 128;
+
+pub(crate) const REPLACE: usize = 192;
+
+// What is counted beside the answers.
+pub(crate) const NOT_FRESH: usize = 130;
+
+pub(crate) const READ_AFRESH: usize = 131;
+
+pub(crate) const READ_SINCE: usize = 132;
+
+pub(crate) const SAME_COLUMN: usize = 193;
+
+// All that a group counted, or the sum of all.
+pub(crate) fn report(t: &Tally) {
+    totals(t);
+    line(t, b"  index built:", BUILD, 1);
+    line(
+        t,
+        b"  range with no tick, with some, other than a fresh count; entries that a fresh count reads, that the index reads:",
+        BETWEEN,
+        5,
+    );
+    line(
+        t,
+        b"  entry replaced, of them by one of the same column:",
+        REPLACE,
+        2,
+    );
+}
