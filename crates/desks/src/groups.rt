@@ -3,9 +3,11 @@ use crate::stretches::horizon_of;
 use crate::stretches::try_long;
 use crate::stretches::try_stretches;
 use crate::tally::report;
+use crate::windows::try_windows;
 use drawn::damage::damaged;
 use drawn::draw::draw;
 use drawn::inputs::Input;
+use drawn::inputs::Size;
 use drawn::inputs::long;
 use drawn::inputs::make_input;
 use drawn::inputs::short;
@@ -26,11 +28,14 @@ const STRETCHES: u32 = 0;
 
 const LONG_QUESTIONS: u32 = 1;
 
-const KINDS: u32 = 2;
+const WINDOWS: u32 = 2;
+
+const KINDS: u32 = 3;
 
 fn title(kind: u32) {
     match kind {
         LONG_QUESTIONS => text(b"long questions"),
+        WINDOWS => text(b"windows"),
         _ => text(b"stretches"),
     }
 }
@@ -42,12 +47,23 @@ fn how_many(kind: u32) -> u32 {
     }
 }
 
-// Mostly a few tasks and jobs, one time in twenty as many as are allowed; one time in five damaged.
+// Mostly a few tasks and jobs, one time in twenty as many as are allowed; for windows, so that they are many and wide, every other time 1 or 2
+// tasks and up to 64 jobs.
+fn size_of(kind: u32, trial: u32) -> Size {
+    let mut size = short(trial, draw(trial, 73, 20) == 0);
+    if (kind == WINDOWS) & (draw(trial, 72, 2) == 0) {
+        size.tasks = 1 + draw(trial, 8, 2);
+        size.jobs = draw(trial, 9, 65);
+    }
+    size
+}
+
+// The input of a trial, one time in five damaged.
 fn input_of(kind: u32, trial: u32, se: bool) -> Input {
     if kind == LONG_QUESTIONS {
         return make_input(trial, se, long(trial));
     }
-    let mut whole = make_input(trial, se, short(trial, draw(trial, 73, 20) == 0));
+    let mut whole = make_input(trial, se, size_of(kind, trial));
     if kind == STRETCHES {
         let horizon = horizon_of(trial);
         whole.horizon = horizon;
@@ -66,6 +82,7 @@ fn try_case(t: &mut Tally, kind: u32, case: Case, tasks: &[u32], jobs: &[u32]) {
     add(t, INPUTS, 1);
     match kind {
         LONG_QUESTIONS => try_long(t, case, tasks, jobs),
+        WINDOWS => try_windows(t, case, tasks, jobs),
         _ => try_stretches(t, case, tasks, jobs),
     }
     if before < count(t, DIFFERENCES) {

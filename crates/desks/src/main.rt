@@ -4,6 +4,7 @@ mod counts;
 mod groups;
 mod stretches;
 mod tally;
+mod windows;
 
 fn main() {
     groups::all();

@@ -9,6 +9,8 @@ pub(crate) const BETWEEN: usize = 128;
 
 pub(crate) const REPLACE: usize = 192;
 
+pub(crate) const JUDGE: usize = 256;
+
 // What is counted beside the answers.
 pub(crate) const NOT_FRESH: usize = 130;
 
@@ -17,6 +19,12 @@ pub(crate) const READ_AFRESH: usize = 131;
 pub(crate) const READ_SINCE: usize = 132;
 
 pub(crate) const SAME_COLUMN: usize = 193;
+
+pub(crate) const FEWER_JOBS: usize = 258;
+
+pub(crate) const LATER_WINDOW: usize = 259;
+
+pub(crate) const OPEN_JOBS: usize = 260;
 
 // All that a group counted, or the sum of all.
 pub(crate) fn report(t: &Tally) {
@@ -33,5 +41,11 @@ pub(crate) fn report(t: &Tally) {
         b"  entry replaced, of them by one of the same column:",
         REPLACE,
         2,
+    );
+    line(
+        t,
+        b"  windows passing, failing; passing with fewer jobs than K, failing at a later window, either with open jobs:",
+        JUDGE,
+        5,
     );
 }

@@ -1,0 +1,4 @@
+pub mod Promise
+pub mod Unique
+pub mod Example
+pub mod Laws

@@ -1,0 +1,256 @@
+-- The promises of deadline misses over a window, for every input. Read this file first.
+--
+-- `judgeAnswer g r task m k` is what `judge` answers, its whole contract: g is the mode, the tasks and the jobs, r the record, (m, k) the
+-- pair. `windowsSaid` says an answer in numbers, and Said gives each its name: `refused number place`, `passing n` and `failing job count n`,
+-- n being the number of open jobs. `checkJudge` is what is checked, in the order of the numbers; `Pair m k` is what 19 asks for: 0 < k,
+-- k ≤ 64 and m ≤ k. `activations jobs task` are the task's jobs by their numbers, `verdictsOn g r task` what the library's `verdict` answers
+-- for them in the same order, `window vs k i` is k of these from the i-th on, `misses` how many are missed, `opens` how many are open.
+-- `smaller-window-fails` in Example shows that `smaller-window` is false without "the task has at least the larger k jobs".
+use Prim.Native.Nat.{ℕ, _+_, _<_, _≤_}
+use mathlib.Core.Bool.{Bool, false, true, _&&_}
+use mathlib.Core.List.{List}
+use mathlib.Core.Logic.{Iff·trans, inl, inr, _↔_, _⊎_, ⊎-elim}
+use mathlib.Core.Path.{ap, refl, sym, _∙_, _≡_}
+use native.Mathlib.Omega.{arith}
+use lib.Dec.{eqb}
+use lib.ListN.{List·getD-map, getD, length, length-map}
+use Rattle.bits.specs.Below.{count}
+use Rattle.tables.specs.declared.outcome.Outcome.{Outcome}
+use Rattle.tables.specs.declared.outcome.Outcome.the-variants.{Done, Refused}
+use Rattle.tables.specs.Refusals.{checkLists}
+use Rattle.tables.specs.Said.{done, outcomeSaid, refused}
+use Rattle.tables.specs.Tables.{jobCount, taskCount, taskOf}
+use Rattle.tables.proofs.Laws.Said.{outcome-said}
+use Rattle.zsrm.specs.declared.answers.Verdict.{Verdict}
+use Rattle.zsrm.specs.declared.answers.Verdict.the-variants as verdicts
+use Rattle.zsrm.specs.declared.record.Record.{Record}
+use Rattle.zsrm.specs.Answers.{checkVerdict, verdictAnswer}
+use Rattle.zsrm.specs.Given.{Given}
+use Rattle.zsrm.specs.Record.{consistent}
+use Rattle.zsrm.specs.Said.{ended, late, stillOpen, verdictSaid}
+use Rattle.zsrm.specs.Verdict.{missed}
+use Rattle.zsrm.proofs.Promise.{verdict-refused}
+use Rattle.window.specs.declared.windows.Windows.{Windows}
+use Rattle.window.specs.declared.windows.Windows.the-variants as windows
+use Rattle.window.specs.Answers.{judgeAnswer}
+use Rattle.window.specs.Refusals.{checkJudge}
+use Rattle.window.specs.Said.{failing, passing, windowsSaid}
+use Rattle.window.specs.Windows.{activations, isOpen, judged, misses, opens, verdictsOn, window}
+use Rattle.window.proofs.Laws.Answers.{answer-done, answer-refused}
+use Rattle.window.proofs.Laws.Jobs.{own-all, own-each, own-many, own-order}
+use Rattle.window.proofs.Laws.Refusals.{Pair, accepted-exactly, lists-only, lists-refuse, pair-refuses, record-refuses, task-refuses, verdict-refuses}
+use Rattle.window.proofs.Laws.Said.{windows-said}
+use Rattle.window.proofs.Laws.Windows.{fails-reads, holds-shorter, never-refused, passes-reads}
+use Rattle.zsrm.proofs.Readings.{apart}
+
+-- ## The words
+
+-- A job is missed exactly where its verdict is late or ended, so an open job is not ..
+pub missed-exactly : (v : Verdict) → missed v ≡ true ↔ ((n : ℕ) × (isExact : Bool) × (verdictSaid v ≡ late n isExact)) ⊎ (verdictSaid v ≡ ended)
+unfolding verdictSaid
+missed-exactly (verdicts.Refused number place) = (λ e. apart (cc), ⊎-elim (λ w. let e = w .2 in apart (cc)) (λ e. apart (cc)))
+missed-exactly verdicts.Met = (λ e. apart (cc), ⊎-elim (λ w. let e = w .2 in apart (cc)) (λ e. apart (cc)))
+missed-exactly (verdicts.Late n isExact) = (λ e. inl (n, isExact, refl), λ e. refl)
+missed-exactly verdicts.Ended = (λ e. inr refl, λ e. refl)
+missed-exactly verdicts.Open = (λ e. apart (cc), ⊎-elim (λ w. let e = w .2 in apart (cc)) (λ e. apart (cc)))
+
+-- .. and it is open exactly where its verdict is open.
+pub open-exactly : (v : Verdict) → isOpen v ≡ true ↔ verdictSaid v ≡ stillOpen
+unfolding verdictSaid
+open-exactly (verdicts.Refused number place) = (λ e. apart (cc), λ e. apart (cc))
+open-exactly verdicts.Met = (λ e. apart (cc), λ e. apart (cc))
+open-exactly (verdicts.Late n isExact) = (λ e. apart (cc), λ e. apart (cc))
+open-exactly verdicts.Ended = (λ e. apart (cc), λ e. apart (cc))
+open-exactly verdicts.Open = (λ e. refl, λ e. refl)
+
+-- The activations of a task are jobs of the list, and the task's ..
+module _ (jobs : List ℕ) (task : ℕ) where
+  pub each-own : (i : ℕ) → i < length (activations jobs task) → (getD (activations jobs task) i 0 < jobCount jobs) × (taskOf jobs (getD (activations jobs task) i 0) ≡ task)
+  each-own = own-each jobs task
+
+  -- .. in the list's order ..
+  pub in-order : (i e : ℕ) → i < e → e < length (activations jobs task) → getD (activations jobs task) i 0 < getD (activations jobs task) e 0
+  in-order = own-order jobs task
+
+  -- .. and every one of them.
+  pub every-own : (j : ℕ) → j < jobCount jobs → taskOf jobs j ≡ task → (i : ℕ) × (i < length (activations jobs task)) × (getD (activations jobs task) i 0 ≡ j)
+  every-own = own-all jobs task
+
+module _ (g : Given) (r : Record) (task : ℕ) where
+  -- the task's jobs, and the verdicts on them
+  abbrev pub own : List ℕ
+  own = activations (g .lists .jobs) task
+
+  abbrev pub vs : List Verdict
+  vs = verdictsOn g r task
+
+  -- There is a verdict on each ..
+  pub own-verdicts : length vs ≡ length own
+  unfolding verdictsOn
+  own-verdicts = length-map own (verdictAnswer g r)
+
+  -- .. the library's own.
+  pub own-verdict : (i : ℕ) → getD vs i (verdictAnswer g r 0) ≡ verdictAnswer g r (getD own i 0)
+  unfolding verdictsOn
+  own-verdict i = List·getD-map (verdictAnswer g r) own i 0
+
+  -- `opens` counts the jobs of the list that are the task's and whose verdict is open.
+  pub opens-exactly : opens vs ≡ count (jobCount (g .lists .jobs)) (λ j. eqb (taskOf (g .lists .jobs) j) task && isOpen (verdictAnswer g r j))
+  unfolding opens verdictsOn
+  opens-exactly = own-many (g .lists .jobs) task isOpen (verdictAnswer g r)
+
+  module _ (m k : ℕ) where
+    -- what is said of the pair, and of its checks
+    abbrev pub said : List ℕ
+    said = windowsSaid (judgeAnswer g r task m k)
+
+    abbrev pub checks : List ℕ
+    checks = outcomeSaid (checkJudge g r task m k)
+
+    passed : checks ≡ done → checkJudge g r task m k ≡ Done
+    unfolding outcomeSaid
+    passed ok = outcome-said (checkJudge g r task m k) Done ok
+
+    -- ## Refusals
+
+    -- `judge` is refused exactly where its checks refuse, and then with their number and place.
+    pub refused-exactly : (number place : ℕ) → said ≡ refused number place ↔ checks ≡ refused number place
+    unfolding windowsSaid outcomeSaid
+    refused-exactly number place = (
+      λ e. go (checkJudge g r task m k) refl (windows-said (judgeAnswer g r task m k) (windows.Refused number place) e),
+      λ e. ap windowsSaid (answer-refused g r task m k number place (outcome-said (checkJudge g r task m k) (Refused number place) e)),
+    )
+      where
+        go : (o : Outcome) → checkJudge g r task m k ≡ o → judgeAnswer g r task m k ≡ windows.Refused number place → outcomeSaid o ≡ refused number place
+        go Done q e = absurd (never-refused own vs m k number place (sym (answer-done g r task m k q) ∙ e))
+        go (Refused n p) q e = let z = answer-refused g r task m k n p q in cc
+
+    -- They pass exactly where the lists are accepted, the record is consistent, the pair is one, and the task is in the table.
+    pub done-exactly : checks ≡ done ↔ (outcomeSaid (checkLists (g .lists)) ≡ done) × (consistent g r ≡ true) × Pair m k × (task < taskCount (g .lists .tasks))
+    unfolding outcomeSaid
+    done-exactly =
+        let w = accepted-exactly g r task m k in (
+          λ ok. let a = w .0 (passed ok) in (ap outcomeSaid (a .lists), a .sound, a .pair, a .known),
+          λ a. ap outcomeSaid (w .1 (record { lists = outcome-said (checkLists (g .lists)) Done (a .0); sound = a .1; pair = a .2; known = a .3 })),
+        )
+
+    -- what a refusal of the checks says, in numbers
+    refused-by : (number place : ℕ) → said ≡ refused number place ↔ checkJudge g r task m k ≡ Refused number place
+    unfolding outcomeSaid
+    refused-by number place =
+        Iff·trans (refused-exactly number place) (outcome-said (checkJudge g r task m k) (Refused number place), ap outcomeSaid)
+
+    lists-done : outcomeSaid (checkLists (g .lists)) ≡ done ↔ checkLists (g .lists) ≡ Done
+    unfolding outcomeSaid
+    lists-done = (outcome-said (checkLists (g .lists)) Done, ap outcomeSaid)
+
+    -- First comes what the lists are refused with, 2 to 8 ..
+    pub lists-first : (number place : ℕ) → outcomeSaid (checkLists (g .lists)) ≡ refused number place → said ≡ refused number place
+    unfolding outcomeSaid
+    lists-first number place e = refused-by number place .1 (lists-refuse g r task m k number place (outcome-said (checkLists (g .lists)) (Refused number place) e))
+
+    pub lists-exactly : (number place : ℕ) → number ≤ 8 → said ≡ refused number place ↔ outcomeSaid (checkLists (g .lists)) ≡ refused number place
+    unfolding outcomeSaid
+    lists-exactly number place l = (λ e. ap outcomeSaid (lists-only g r task m k number place (omega arith) (refused-by number place .0 e)), lists-first number place)
+
+    -- .. then 11, exactly where the record is not consistent ..
+    pub eleven : said ≡ refused 11 0 ↔ (outcomeSaid (checkLists (g .lists)) ≡ done) × (consistent g r ≡ false)
+    eleven =
+        Iff·trans (refused-by 11 0) (
+          λ e. let w = record-refuses g r task m k .0 e in (lists-done .1 (w .0), w .1),
+          λ w. record-refuses g r task m k .1 (lists-done .0 (w .0), w .1),
+        )
+
+    -- .. then 19, exactly where the pair is none, whatever the task ..
+    pub nineteen : said ≡ refused 19 0 ↔ (outcomeSaid (checkLists (g .lists)) ≡ done) × (consistent g r ≡ true) × (Pair m k → ⊥)
+    nineteen =
+        Iff·trans (refused-by 19 0) (
+          λ e. let w = pair-refuses g r task m k .0 e in (lists-done .1 (w .0), w .1, w .2),
+          λ w. pair-refuses g r task m k .1 (lists-done .0 (w .0), w .1, w .2),
+        )
+
+    -- .. and last 20, exactly where the task is not in the table.
+    pub twenty : said ≡ refused 20 0 ↔ (outcomeSaid (checkLists (g .lists)) ≡ done) × (consistent g r ≡ true) × Pair m k × (taskCount (g .lists .tasks) ≤ task)
+    twenty =
+        Iff·trans (refused-by 20 0) (
+          λ e. let w = task-refuses g r task m k .0 e in (lists-done .1 (w .0), w .1, w .2, w .3),
+          λ w. task-refuses g r task m k .1 (lists-done .0 (w .0), w .1, w .2, w .3),
+        )
+
+    -- What the library's `verdict` is refused with for any job, but for 13, is what `judge` is refused with.
+    pub as-verdict : (j number place : ℕ) → (number ≡ 13 → ⊥) → verdictSaid (verdictAnswer g r j) ≡ refused number place → said ≡ refused number place
+    unfolding outcomeSaid
+    as-verdict j number place other e =
+        refused-by number place .1 (verdict-refuses g r task m k j number place other (outcome-said (checkVerdict g r j) (Refused number place) (verdict-refused g r j number place .0 e)))
+
+    -- ## Windows
+
+    -- an answer that is no refusal is given where nothing is refused
+    answered : (x : Windows) → ((number place : ℕ) → x ≡ windows.Refused number place → ⊥) → said ≡ windowsSaid x ↔ (checks ≡ done) × (judged own vs m k ≡ x)
+    unfolding outcomeSaid
+    answered x proper = (
+      λ e. go (checkJudge g r task m k) refl (windows-said (judgeAnswer g r task m k) x e),
+      λ w. ap windowsSaid (answer-done g r task m k (passed (w .0)) ∙ w .1),
+    )
+      where
+        go : (o : Outcome) → checkJudge g r task m k ≡ o → judgeAnswer g r task m k ≡ x → (checks ≡ done) × (judged own vs m k ≡ x)
+        go Done q e = (ap outcomeSaid q, sym (answer-done g r task m k q) ∙ e)
+        go (Refused n p) q e = absurd (proper n p (sym e ∙ answer-refused g r task m k n p q))
+
+    -- It passes exactly where every k consecutive of the task's jobs contain at most m misses; the answer has the number of open jobs.
+    pub passes-exactly : (n : ℕ) → said ≡ passing n ↔ (checks ≡ done) × ((i : ℕ) → i + k ≤ length own → misses (window vs k i) ≤ m) × (n ≡ opens vs)
+    unfolding windowsSaid
+    passes-exactly n =
+        let reads = passes-reads own vs m k n in
+        Iff·trans (answered (windows.Passes n) (λ number place e. apart (cc))) (
+          λ w. let all = reads .0 (w .1) in (w .0, λ i l. all .0 i (omega (arith, own-verdicts)), all .1),
+          λ w. (w .0, reads .1 (λ i l. w .1 i (omega (arith, own-verdicts)), w .2)),
+        )
+
+    -- It fails exactly where some window contains more. The answer is about the first such window: it has its first job's number, its misses,
+    -- which are more than m, and the number of open jobs; every earlier window contains at most m misses.
+    pub record FirstFails (i job number n : ℕ) : Type 0 where
+      pub there : i + k ≤ length own
+      pub named : job ≡ getD own i 0
+      pub counted : number ≡ misses (window vs k i)
+      pub over : m < number
+      pub earlier : (e : ℕ) → e < i → misses (window vs k e) ≤ m
+      pub open-jobs : n ≡ opens vs
+
+    pub fails-exactly : (job number n : ℕ) → said ≡ failing job number n ↔ (checks ≡ done) × ((i : ℕ) × FirstFails i job number n)
+    unfolding windowsSaid
+    fails-exactly job number n =
+        let reads = fails-reads own vs m k job number n in
+        Iff·trans (answered (windows.Fails job number n) (λ x y e. apart (cc))) (
+          λ w. let f = reads .0 (w .1) in
+              (w .0, (f .0, record { there = omega (arith, f .1 .there, own-verdicts); named = f .2; counted = f .3; over = omega (arith, f .1 .over, f .3); earlier = f .1 .earlier; open-jobs = f .4 })),
+          λ w. let f = w .1 .1 in
+              (w .0, reads .1 (w .1 .0, record { there = omega (arith, f .there, own-verdicts); over = omega (arith, f .over, f .counted); earlier = f .earlier }, f .named, f .counted, f .open-jobs)),
+        )
+
+    -- Fewer than k jobs pass.
+    pub few-pass : checks ≡ done → length own < k → said ≡ passing (opens vs)
+    few-pass ok few = passes-exactly (opens vs) .1 (ok, λ i l. absurd (omega arith), refl)
+
+-- ## From one pair to another
+
+module _ (g : Given) (r : Record) (task m k n : ℕ) (passes : said g r task m k ≡ passing n) where
+  -- another pair that is accepted, with the same lists, record and task
+  other : (m′ k′ : ℕ) → Pair m′ k′ → checks g r task m′ k′ ≡ done
+  other m′ k′ pair =
+      let w = done-exactly g r task m k .0 (passes-exactly g r task m k n .0 passes .0) in
+      done-exactly g r task m′ k′ .1 (w .0, w .1, pair, w .3)
+
+  -- Raising m never turns a pass into a failure, where the new pair is accepted ..
+  pub more-misses : (m′ : ℕ) → m ≤ m′ → Pair m′ k → said g r task m′ k ≡ passing n
+  more-misses m′ more pair =
+      let w = passes-exactly g r task m k n .0 passes in
+      passes-exactly g r task m′ k n .1 (other m′ k pair, λ i l. omega (arith, w .1 i l), w .2)
+
+  -- .. nor does a smaller k, where the task has at least the larger k jobs, and the new pair is accepted.
+  pub smaller-window : (k′ : ℕ) → k′ ≤ k → k ≤ length (own g r task) → Pair m k′ → said g r task m k′ ≡ passing n
+  smaller-window k′ less enough pair =
+      let same = own-verdicts g r task in
+      let w = passes-exactly g r task m k n .0 passes in
+      let all = holds-shorter (vs g r task) m k k′ less (omega arith) (λ i l. w .1 i (omega arith)) in
+      passes-exactly g r task m k′ n .1 (other m k′ pair, λ i l. all i (omega arith), w .2)
