@@ -1,4 +1,5 @@
 // The groups of trials: so many inputs of a kind, each numbered, the number being the seed of all that is drawn for it. The odd ones are in SE.
+use crate::seasons::try_seasons;
 use crate::stretches::horizon_of;
 use crate::stretches::try_long;
 use crate::stretches::try_stretches;
@@ -30,12 +31,15 @@ const LONG_QUESTIONS: u32 = 1;
 
 const WINDOWS: u32 = 2;
 
-const KINDS: u32 = 3;
+const SEASONS: u32 = 3;
+
+const KINDS: u32 = 4;
 
 fn title(kind: u32) {
     match kind {
         LONG_QUESTIONS => text(b"long questions"),
         WINDOWS => text(b"windows"),
+        SEASONS => text(b"seasons"),
         _ => text(b"stretches"),
     }
 }
@@ -83,6 +87,7 @@ fn try_case(t: &mut Tally, kind: u32, case: Case, tasks: &[u32], jobs: &[u32]) {
     match kind {
         LONG_QUESTIONS => try_long(t, case, tasks, jobs),
         WINDOWS => try_windows(t, case, tasks, jobs),
+        SEASONS => try_seasons(t, case.trial, tasks),
         _ => try_stretches(t, case, tasks, jobs),
     }
     if before < count(t, DIFFERENCES) {

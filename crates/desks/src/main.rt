@@ -2,6 +2,7 @@
 // from a fixed seed. It writes for each group how often each call gave each answer; a difference is written with its whole input.
 mod counts;
 mod groups;
+mod seasons;
 mod stretches;
 mod tally;
 mod windows;

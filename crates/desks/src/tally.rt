@@ -11,6 +11,16 @@ pub(crate) const REPLACE: usize = 192;
 
 pub(crate) const JUDGE: usize = 256;
 
+pub(crate) const EMPTY: usize = 320;
+
+pub(crate) const ADD: usize = 384;
+
+pub(crate) const JOIN: usize = 448;
+
+pub(crate) const MEAN: usize = 512;
+
+pub(crate) const SHOW: usize = 576;
+
 // What is counted beside the answers.
 pub(crate) const NOT_FRESH: usize = 130;
 
@@ -48,4 +58,9 @@ pub(crate) fn report(t: &Tally) {
         JUDGE,
         5,
     );
+    line(t, b"  report begun:", EMPTY, 1);
+    line(t, b"  run added, refused for a number alone:", ADD, 2);
+    line(t, b"  reports joined, refused for a number alone:", JOIN, 2);
+    line(t, b"  no mean, a mean:", MEAN, 2);
+    line(t, b"  text of no line, of some:", SHOW, 2);
 }

@@ -1,19 +1,19 @@
 -- Laws of bytes written one part behind another, and of the listing's lines.
 use Prim.Native.Nat.{ℕ, suc, _+_, _*_, _-_, _≤_, _<_}
-use mathlib.Core.Path.{_≡_, refl, ap, _∙_}
+use mathlib.Core.Path.{_≡_, refl, ap}
 use mathlib.Core.List.{List, [], _∷_, _++_, append-assoc, append-nil}
 use mathlib.Core.Bool.{Bool, true, false, cond}
 use native.Mathlib.Numerals.{add-one}
 use native.Mathlib.Omega.{arith}
-use lib.ListN.{length, getD, take, drop, set, length-append, drop-of-length-le}
-use lib.Seq.{length-sets, drop-cons, take-suc}
+use lib.ListN.{length, getD, drop, length-append, drop-of-length-le}
+use lib.Seq.{drop-cons}
 use lib.Dec.{eqb, lit≤}
 use borrow.Author.Tests.{eq-eqb, ne-eqb}
 use Rattle.bits.proofs.Bools.{by-cond}
 use Rattle.decimal.specs.declared.Written.{Written}
 use Rattle.decimal.specs.declared.Written.the-variants.{NoRoom, To}
-use Rattle.decimal.specs.Decimal.{after, decimal, size, writtenAt}
-use Rattle.decimal.proofs.Writing.{length-digits, size-most, told-no-room, told-to}
+use Rattle.decimal.specs.Decimal.{after, decimal, writtenAt}
+use Rattle.decimal.proofs.Writing.{told-no-room, told-to}
 use Rattle.zsrm.specs.declared.mode.Mode.{Mode}
 use Rattle.zsrm.specs.declared.mode.Mode.the-variants.{S, SE}
 use Rattle.zsrm.specs.declared.record.Place.{Place}
@@ -21,45 +21,13 @@ use Rattle.zsrm.specs.declared.record.Standing.{Standing}
 use Rattle.zsrm.specs.declared.record.Standing.the-variants.{NotArrived, Unfinished, Finished, Ended}
 use Rattle.zsrm.specs.declared.answers.Verdict.{Verdict}
 use Rattle.sheet.specs.Listing.{behindFirst, lateness, line, sign, word, instant, verdictLine, letter, entry, longest, longestFrom, refusedLine, runLine, stretch, stretchLines, stretches}
-use Rattle.sheet.specs.Wrote.{Wrote}
+use Rattle.decimal.specs.Wrote.{Wrote}
 use Rattle.sheet.specs.Code.{lateText, verdictText}
-use Rattle.sheet.proofs.Numbers.{sets-sets}
 use Rattle.zsrm.specs.declared.answers.Verdict.the-variants as verdicts
-
-pub wrote-none : (l : List ℕ) (at : ℕ) → Wrote l at [] l at
-wrote-none l at = record { next-is = omega arith; after-is = refl }
-
-pub wrote-more : {l m r xs ys : List ℕ} {at k n : ℕ} → Wrote l at xs m k → Wrote m k ys r n → Wrote l at (xs ++ ys) r n
-wrote-more {l} {m} {r} {xs} {ys} {at} {k} {n} v w =
-    let a = length-append xs ys in
-    let p = v .next-is in
-    let q = w .next-is in
-    record {
-      next-is = omega arith;
-      after-is = w .after-is ∙ rw (v .after-is, p) (sets-sets xs ys l at);
-    }
-
-pub wrote-length : {l m bs : List ℕ} {at k : ℕ} → Wrote l at bs m k → length m ≡ length l
-wrote-length {l} {m} {bs} {at} w = ap length (w .after-is) ∙ length-sets l at bs
-
--- the next byte of a word
-pub wrote-next : {l m : List ℕ} (t : List ℕ) (at i : ℕ) → Wrote l at (take i t) m (at + i) → i < length t
-    → Wrote l at (take (i + 1) t) (set m (at + i) (getD t i 0)) (at + (i + 1))
-wrote-next {l} {m} t at i w h =
-    let e : take (i + 1) t ≡ take i t ++ (getD t i 0 ∷ []) = rw add-one (take-suc t i 0 h) in
-    let one : Wrote m (at + i) (getD t i 0 ∷ []) (set m (at + i) (getD t i 0)) (at + (i + 1)) = record { next-is = omega arith; after-is = refl } in
-    rw e (wrote-more w one)
-
-pub decimal-length : (x : ℕ) → length (decimal x) ≤ 10
-unfolding decimal
-decimal-length x = omega (arith, length-digits (size 10 x) x, size-most 10 x)
+use Rattle.decimal.proofs.Wrote.{decimal-length, wrote-more, wrote-none}
 
 pub field-length : (x b : ℕ) → length (decimal x ++ (b ∷ [])) ≤ 11
 field-length x b = simp length-append (omega (arith, decimal-length x))
-
--- the room that is left behind a part of at most n bytes
-pub room-left : {l m bs : List ℕ} {at k : ℕ} (n p w : ℕ) → Wrote l at bs m k → length bs ≤ n → at + w ≤ length l → n + p ≤ w → k + p ≤ length m
-room-left n p w v few room h = omega (arith, v .next-is, wrote-length v)
 
 pub room-for-one : (k n : ℕ) → k + 1 ≤ n → k < n
 room-for-one k n h = omega arith

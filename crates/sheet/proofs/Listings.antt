@@ -9,11 +9,11 @@ use lib.Seq.{length-take-le, take-all}
 use Rattle.sheet.specs.declared.input.Sheet.{Sheet}
 use Rattle.sheet.specs.Grammar.{Parsed, malformed, parsed, parsedOf}
 use Rattle.sheet.specs.Listing.{givenListing, listing, parsedListing, refusedLine}
-use Rattle.sheet.specs.Wrote.{Wrote}
-use Rattle.sheet.proofs.Lines.{wrote-length}
+use Rattle.decimal.specs.Wrote.{Wrote}
 use Rattle.sheet.proofs.Runs.{given-length, refused-length}
 use Rattle.sheet.proofs.Told.{Told, long}
 use Rattle.zsrm.specs.Given.{given}
+use Rattle.decimal.proofs.Wrote.{wrote-length}
 
 pub listing-malformed : (s : List ℕ) → parsedOf s ≡ malformed → refusedLine 14 0 ≡ listing s
 unfolding listing

@@ -5,7 +5,7 @@ use mathlib.Core.List.{List, [], _∷_, _++_, append-assoc, append-nil}
 use mathlib.Core.Bool.{Bool, true, false, cond}
 use native.Mathlib.Numerals.{add-one}
 use native.Mathlib.Omega.{arith}
-use native.Mathlib.Nat.{sub-zero, add-zero}
+use native.Mathlib.Nat.{sub-zero}
 use lib.ListN.{length, getD, set, length-append}
 use lib.Seq.{sets, length-sets}
 use lib.Dec.{eqb}
@@ -18,6 +18,7 @@ use Rattle.sheet.specs.declared.input.Next.{Next}
 use Rattle.sheet.specs.declared.input.Next.the-variants.{At, Broken}
 use Rattle.sheet.specs.Grammar.{endedBy, fieldAt, endOf, Numbers, got, bad, withFirst, andThen, numbersFrom}
 use Rattle.sheet.specs.Code.{NumbersAre}
+use Rattle.decimal.proofs.Wrote.{sets-sets}
 
 module _ (s : List ℕ) (at end v k : ℕ) (p : numberAt s at ≡ Value v k) where
   pub field-yes : getD s k 256 ≡ end → fieldAt s at end ≡ Value v (k + 1)
@@ -64,12 +65,6 @@ module _ (s : List ℕ) (per i n k : ℕ) where
   numbers-done : n ≡ 0 → numbersFrom s per i n k ≡ got [] k
   unfolding numbersFrom
   numbers-done p = rw p
-
-pub sets-sets : (xs ys l : List ℕ) (i : ℕ) → sets (sets l i xs) (i + length xs) ys ≡ sets l i (xs ++ ys)
-sets-sets [] ys l i = rw add-zero
-sets-sets (a ∷ xs) ys l i =
-    let e : i + suc (length xs) ≡ suc i + length xs = omega arith in
-    rw e (sets-sets xs ys (set l i a) (suc i))
 
 -- what is known before number i: the numbers read, and the position of the next
 pub record Filled (s : List ℕ) (per n at : ℕ) (l m : List ℕ) (i k : ℕ) : Type 0 where

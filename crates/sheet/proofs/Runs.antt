@@ -29,11 +29,12 @@ use Rattle.zsrm.proofs.Promise.{verdicts-each}
 use Rattle.tables.proofs.Laws.Refusals.{before-first, before-second, refuse-fine, unless-done, unless-refused}
 use Rattle.zsrm.proofs.Laws.Run.{length-run}
 use Rattle.sheet.specs.Listing.{behindFirst, givenListing, jobLine, jobLines, verdictLine, line, printed, refusedLine, runLine, runListing, stretches}
-use Rattle.sheet.specs.Wrote.{Wrote}
+use Rattle.decimal.specs.Wrote.{Wrote}
 use Rattle.sheet.specs.Code.{Sound}
-use Rattle.sheet.proofs.Lines.{decimal-length, head-length, job-length, stretches-length, wrote-length, wrote-more}
+use Rattle.sheet.proofs.Lines.{head-length, job-length, stretches-length}
 use Rattle.zsrm.specs.Given.{Given, given}
 use Rattle.tables.proofs.Laws.Accepted.{lists-few}
+use Rattle.decimal.proofs.Wrote.{decimal-length, wrote-length, wrote-more}
 
 module _ {mode : Mode} {tasks jobs : List ℕ} {r : Record} (w : Sound mode tasks jobs r) where
   pub few : jobCount jobs ≤ 64

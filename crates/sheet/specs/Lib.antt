@@ -1,4 +1,3 @@
 pub mod Grammar
 pub mod Listing
-pub mod Wrote
 pub mod Code

@@ -4,7 +4,7 @@ ghost use mathlib.Core.Path.{_≡_};
 ghost use Prim.Native.Nat.{_≤_, _<_};
 ghost use lib.ListN.{length};
 ghost use Rattle.sheet.specs.Listing.{givenListing, listing, printed};
-ghost use Rattle.sheet.specs.Wrote.{Wrote};
+ghost use Rattle.decimal.specs.Wrote.{Wrote};
 ghost use Rattle.sheet.specs.Code.{Sound};
 ghost use Rattle.zsrm.specs.Given.{given};
 use input::parse;

@@ -5,7 +5,7 @@ ghost use Prim.Native.Nat.{_+_, _*_, _≤_, _<_};
 ghost use lib.ListN.{length};
 ghost use Rattle.decimal.specs.Decimal.{decimal};
 ghost use Rattle.sheet.specs.Listing.{behindFirst, entry, instant, jobLines, letter, refusedLine, runLine, sign, stretch, stretches, verdictLine, word};
-ghost use Rattle.sheet.specs.Wrote.{Wrote};
+ghost use Rattle.decimal.specs.Wrote.{Wrote};
 ghost use Rattle.sheet.specs.Code.{Sound, lateText, verdictText};
 ghost use Rattle.tables.specs.Tables.{jobCount, lists};
 use decimal::Written;

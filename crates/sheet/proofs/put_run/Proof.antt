@@ -1,10 +1,10 @@
 -- Line 1, the stretches and the jobs, one behind the other; there is room for all.
 use borrow.Author.Needs.{needs}
 use Rattle.sheet.specs.Listing.{printed}
-use Rattle.sheet.proofs.Lines.{wrote-more}
 use Rattle.sheet.proofs.Runs.{few, room-jobs, room-stretches}
 use Rattle.sheet.proofs.put_run.Statement.{statement}
 use Rattle.sheet.proofs.put_run.Tie as tie
+use Rattle.decimal.proofs.Wrote.{wrote-more}
 
 put-stretches-requires : tie.Need-put-stretches-requires
 put-stretches-requires c κs =

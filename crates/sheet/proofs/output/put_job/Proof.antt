@@ -1,9 +1,10 @@
 -- The word, the number, the verdict and the two last numbers, one behind the other: 67 bytes at most.
 use lib.Dec.{lit≤}
 use borrow.Author.Needs.{needs}
-use Rattle.sheet.proofs.Lines.{field-length, room-left, text-length, wrote-job}
+use Rattle.sheet.proofs.Lines.{field-length, text-length, wrote-job}
 use Rattle.sheet.proofs.output.put_job.Statement.{statement}
 use Rattle.sheet.proofs.output.put_job.Tie as tie
+use Rattle.decimal.proofs.Wrote.{room-left}
 
 put-verdict-requires : tie.Need-put-verdict-requires
 put-verdict-requires c κs =

@@ -10,11 +10,11 @@ use Rattle.zsrm.specs.Verdict.{verdict}
 use Rattle.zsrm.specs.declared.answers.Judged.{Judged}
 use Rattle.zsrm.specs.declared.answers.Verdict.the-variants.{Refused}
 use Rattle.sheet.specs.Listing.{jobLines}
-use Rattle.sheet.specs.Wrote.{Wrote}
-use Rattle.sheet.proofs.Lines.{wrote-length, wrote-none}
+use Rattle.decimal.specs.Wrote.{Wrote}
 use Rattle.sheet.proofs.Runs.{all-judged, few, jobs-length, wrote-jobs}
 use Rattle.sheet.proofs.output.put_jobs.Statement.{statement}
 use Rattle.sheet.proofs.output.put_jobs.Tie as tie
+use Rattle.decimal.proofs.Wrote.{wrote-length, wrote-none}
 
 -- what an array reads past its end
 abbrev none : Judged

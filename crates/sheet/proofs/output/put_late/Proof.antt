@@ -1,9 +1,9 @@
 -- A late job's number; nothing for the other verdicts.
 use borrow.Author.Needs.{needs}
-use Rattle.sheet.proofs.Lines.{wrote-none}
 use Rattle.sheet.specs.Code.{lateText}
 use Rattle.sheet.proofs.output.put_late.Statement.{statement}
 use Rattle.sheet.proofs.output.put_late.Tie as tie
+use Rattle.decimal.proofs.Wrote.{wrote-none}
 
 pub put-late-spec : {M : Type 1} → statement M
 unfolding lateText

@@ -1,9 +1,10 @@
 -- A space, then two numbers of at most 10 digits with a byte behind each: 23 bytes.
 use lib.Dec.{lit≤}
 use borrow.Author.Needs.{needs}
-use Rattle.sheet.proofs.Lines.{field-length, room-left, wrote-lost}
+use Rattle.sheet.proofs.Lines.{field-length, wrote-lost}
 use Rattle.sheet.proofs.output.put_lost.Statement.{statement}
 use Rattle.sheet.proofs.output.put_lost.Tie as tie
+use Rattle.decimal.proofs.Wrote.{room-left}
 
 put-field-requires : tie.Need-put-field-requires
 put-field-requires c κs = let x = c .before .before .before in room-left 1 11 23 (x .put-byte .ensures) (lit≤ tt) (x .before .before .before .pre) (lit≤ tt)

@@ -1,9 +1,10 @@
 -- The word and the two numbers, one behind the other: 30 bytes at most.
 use lib.Dec.{lit≤}
 use borrow.Author.Needs.{needs}
-use Rattle.sheet.proofs.Lines.{field-length, room-left, wrote-refused}
+use Rattle.sheet.proofs.Lines.{field-length, wrote-refused}
 use Rattle.sheet.proofs.output.put_refused.Statement.{statement}
 use Rattle.sheet.proofs.output.put_refused.Tie as tie
+use Rattle.decimal.proofs.Wrote.{room-left}
 
 put-field-requires-2 : tie.Need-put-field-requires-2
 put-field-requires-2 c κs =

@@ -1,9 +1,10 @@
 -- Each part leaves the room that the parts behind it need: 33 bytes in all.
 use borrow.Author.Needs.{needs}
 use lib.Dec.{lit≤}
-use Rattle.sheet.proofs.Lines.{entry-length, field-length, room-for-one, room-left, wrote-stretch}
+use Rattle.sheet.proofs.Lines.{entry-length, field-length, room-for-one, wrote-stretch}
 use Rattle.sheet.proofs.output.put_stretch.Statement.{statement}
 use Rattle.sheet.proofs.output.put_stretch.Tie as tie
+use Rattle.decimal.proofs.Wrote.{room-left}
 
 put-field-requires-2 : tie.Need-put-field-requires-2
 put-field-requires-2 c κs = room-left 11 11 33 (c .before .before .before .put-field .ensures) (field-length _ _) (c .before .before .before .before .before .before .pre) (lit≤ tt)

@@ -6,9 +6,10 @@ use mathlib.Core.Logic.{⊎-elim}
 use native.Mathlib.Omega.{arith}
 use lib.ListN.{length}
 use borrow.Author.Needs.{needs}
-use Rattle.sheet.proofs.Lines.{Stretched, stretched-end, stretched-first, stretched-new, stretched-same, stretches-none, wrote-length}
+use Rattle.sheet.proofs.Lines.{Stretched, stretched-end, stretched-first, stretched-new, stretched-same, stretches-none}
 use Rattle.sheet.proofs.output.put_stretches.Statement.{statement}
 use Rattle.sheet.proofs.output.put_stretches.Tie as tie
+use Rattle.decimal.proofs.Wrote.{wrote-length}
 
 abbrev Inv-loop : tie.InvT-loop
 Inv-loop out₀ at schedule first₀ current₀ k₀ t₀ out first current k t = Stretched out₀ at schedule out first current k t

@@ -6,10 +6,10 @@ use denote.Ref.{now}
 use lib.ListN.{length, take}
 use lib.Seq.{take-all}
 use borrow.Author.Needs.{needs}
-use Rattle.sheet.specs.Wrote.{Wrote}
-use Rattle.sheet.proofs.Lines.{wrote-length, wrote-next, wrote-none}
+use Rattle.decimal.specs.Wrote.{Wrote}
 use Rattle.sheet.proofs.output.put_text.Statement.{statement}
 use Rattle.sheet.proofs.output.put_text.Tie as tie
+use Rattle.decimal.proofs.Wrote.{wrote-length, wrote-next, wrote-none}
 
 abbrev Inv-loop : tie.InvT-loop
 Inv-loop out₀ at word i₀ out i = (i ≤ length word) × Wrote out₀ at (take i word) out (at + i)

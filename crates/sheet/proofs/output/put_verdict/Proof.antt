@@ -1,9 +1,10 @@
 -- Each part leaves the room that the parts behind it need: 29 bytes in all.
 use lib.Dec.{lit≤}
 use borrow.Author.Needs.{needs}
-use Rattle.sheet.proofs.Lines.{instant-length, room-for-one, room-left, word-length, wrote-verdict}
+use Rattle.sheet.proofs.Lines.{instant-length, room-for-one, word-length, wrote-verdict}
 use Rattle.sheet.proofs.output.put_verdict.Statement.{statement}
 use Rattle.sheet.proofs.output.put_verdict.Tie as tie
+use Rattle.decimal.proofs.Wrote.{room-left}
 
 put-byte-requires : tie.Need-put-byte-requires
 put-byte-requires c κs = let w = c .before .before .before in room-for-one _ _ (room-left 5 1 29 (w .put-word .ensures) (word-length _) (w .before .before .before .pre) (lit≤ tt))

@@ -1,9 +1,9 @@
 -- Each verdict has its word; that of a refusal is empty.
 use borrow.Author.Needs.{needs}
-use Rattle.sheet.proofs.Lines.{wrote-none}
 use Rattle.sheet.specs.Listing.{word}
 use Rattle.sheet.proofs.output.put_word.Statement.{statement}
 use Rattle.sheet.proofs.output.put_word.Tie as tie
+use Rattle.decimal.proofs.Wrote.{wrote-none}
 
 pub put-word-spec : {M : Type 1} → statement M
 unfolding word

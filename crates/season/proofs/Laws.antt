@@ -1,0 +1,8 @@
+-- The laws, one file per notion: proved once, and cited from then on.
+pub mod Rows
+pub mod Reports
+pub mod Own
+pub mod Mean
+pub mod Text
+pub mod Season
+pub mod Order

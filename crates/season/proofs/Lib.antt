@@ -1,0 +1,5 @@
+pub mod Promise
+pub mod Unique
+pub mod Example
+pub mod Readings
+pub mod Laws

@@ -1,0 +1,88 @@
+-- Document 02, Ten: over any number of finished runs of one table, added one by one; two reports joined equal one report over all runs of both.
+use Prim.Native.Nat.{ℕ, _<_}
+use mathlib.Core.Bool.{true}
+use mathlib.Core.List.{List, [], _∷_, _++_}
+use mathlib.Core.Path.{_≡_}
+use Rattle.tables.specs.declared.outcome.Outcome.the-variants.{Done}
+use Rattle.tables.specs.Refusals.{checkTasks, unless}
+use Rattle.tables.specs.Tables.{jobCount, lists, taskCount}
+use Rattle.zsrm.specs.declared.mode.Mode.{Mode}
+use Rattle.zsrm.specs.declared.record.Record.{Record}
+use Rattle.zsrm.specs.Given.{Given, given}
+use Rattle.season.specs.declared.report.Report.{Report}
+use Rattle.season.specs.declared.report.Reported.{Reported}
+use Rattle.season.specs.declared.report.Row.{Row}
+use Rattle.season.specs.Own.{addAnswer, checkRun, ownRow}
+use Rattle.season.specs.Reports.{emptyAnswer, joinAnswer, rowAt, rowCount, rowsOf}
+use Rattle.season.specs.Rows.{fits, joinRow, noJobs}
+
+-- A finished run: its mode, its jobs, and the record that it returned.
+pub record Run : Type 0 where
+  pub mode : Mode
+  pub jobs : List ℕ
+  pub returned : Record
+
+-- How a report is made by these calls: begun empty, a run added, two reports joined.
+pub data Season : Type 0 where
+  begun : Season
+  added : Season → Run → Season
+  merged : Season → Season → Season
+
+unfoldable pub runsOf : Season → List Run
+runsOf begun = []
+runsOf (added s run) = runsOf s ++ (run ∷ [])
+runsOf (merged s t) = runsOf s ++ runsOf t
+
+-- runs added one by one
+unfoldable pub addAll : Season → List Run → Season
+addAll s [] = s
+addAll s (run ∷ runs) = addAll (added s run) runs
+
+-- One call after another; a refusal on the way is the answer.
+unfoldable pub andThen : Reported → (Report → Reported) → Reported
+andThen x next = unless (x .outcome) (λ number place. x) (next (x .report))
+
+-- Two answers that are alike: refused both with one number and place, or done both with one report.
+abbrev pub Alike : Reported → Reported → Type 0
+Alike x y = (x .outcome ≡ y .outcome) × (x .outcome ≡ Done → x .report ≡ y .report)
+
+-- The same number of tasks, and the same rows of them: all that is looked at.
+pub record Same (a c : Report) : Type 0 where
+  pub tasks-are : a .tasks ≡ c .tasks
+  pub rows-are : (k : ℕ) → k < rowCount (a .tasks) → rowAt a k ≡ rowAt c k
+
+module _ (tasks : List ℕ) where
+  abbrev pub givenOf : Run → Given
+  givenOf run = given (run .mode) tasks (run .jobs)
+
+  -- what the last of the calls answers
+  unfoldable pub seasonAnswer : Season → Reported
+  seasonAnswer begun = emptyAnswer tasks
+  seasonAnswer (added s run) = andThen (seasonAnswer s) (λ report. addAnswer report (givenOf run) (run .returned))
+  seasonAnswer (merged s t) = andThen (seasonAnswer s) (λ a. andThen (seasonAnswer t) (λ b. joinAnswer a b))
+
+  -- a run's own row of task k, and that of all runs
+  abbrev pub rowIn : ℕ → Run → Row
+  rowIn k run = ownRow (lists tasks (run .jobs)) (run .returned) k (jobCount (run .jobs))
+
+  unfoldable pub totalRow : ℕ → List Run → Row
+  totalRow k [] = noJobs
+  totalRow k (run ∷ runs) = joinRow (rowIn k run) (totalRow k runs)
+
+  -- One report over all runs.
+  unfoldable pub reportOver : List Run → Report
+  reportOver runs = record { tasks = taskCount tasks; rows = rowsOf (taskCount tasks) (λ k. totalRow k runs) }
+
+  -- The run is accepted: 2 to 8 and 11.
+  abbrev pub Accepted : Run → Type 0
+  Accepted run = checkRun (givenOf run) (run .returned) ≡ Done
+
+  abbrev pub AllAccepted : List Run → Type 0
+  AllAccepted [] = Unit {0}
+  AllAccepted (run ∷ runs) = Accepted run × AllAccepted runs
+
+  -- The table and every run are accepted, and no count and no sum over all runs passes 4,294,967,295.
+  pub record Fitting (runs : List Run) : Type 0 where
+    pub table : checkTasks tasks ≡ Done
+    pub each : AllAccepted runs
+    pub totals : (k : ℕ) → k < taskCount tasks → fits (totalRow k runs) ≡ true

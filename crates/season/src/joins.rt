@@ -1,0 +1,83 @@
+// Two reports joined row by row, where all of it fits; the empty report; and what a refused call hands back.
+ghost use mathlib.Core.Path.{_≡_};
+ghost use Prim.Native.Nat.{ℕ, _<_};
+ghost use Rattle.tables.specs.declared.outcome.Outcome.{Outcome};
+ghost use Rattle.season.specs.Code.{Room};
+ghost use Rattle.season.specs.Reports.{allFit, check18, emptyReport, joined, rowAt, rowCount};
+use crate::report::Report;
+use crate::report::Reported;
+use crate::rows::join_rows;
+use crate::rows::no_jobs;
+use crate::rows::rows_fit;
+use tables::refuse;
+use zsrm::Outcome;
+
+// How many rows of a report of so many tasks are looked at: at most 16.
+pub(crate) fn row_count(tasks: u32) -> usize
+    ensures { λ r. ⌜ r ≡ rowCount tasks ⌝ }
+{
+    if tasks < 16 { tasks as usize } else { 16 }
+}
+
+// The report of no runs.
+pub(crate) fn empty_report(tasks: u32) -> Report
+    ensures { λ r. ⌜ r ≡ emptyReport tasks ⌝ }
+{
+    let row = no_jobs();
+    Report {
+        tasks,
+        rows: [row; 16],
+    }
+}
+
+// Whether every row that two reports come to fits: as many rows as the first one's tasks, at most 16.
+fn all_fit(a: Report, b: Report) -> bool
+    ensures { λ r. ⌜ r ≡ allFit a b ⌝ }
+{
+    let n = row_count(a.tasks);
+    let mut all = true;
+    let mut k: usize = 0;
+    while k < n {
+        let x = a.rows[k];
+        let y = b.rows[k];
+        all = rows_fit(x, y) & all;
+        k += 1;
+    }
+    all
+}
+
+// 18: the number of tasks is another, or a count or a sum would pass 4,294,967,295.
+pub(crate) fn check18(a: Report, b: Report) -> Outcome
+    ensures { λ r. ⌜ r ≡ check18 a b ⌝ }
+{
+    let same = a.tasks == b.tasks;
+    let fit = all_fit(a, b);
+    refuse(!same | !fit, 18, 0)
+}
+
+// The joined report, where it fits; the rows that were not looked at are 0.
+pub(crate) fn join_reports(a: Report, b: Report) -> Report
+    requires { ⌜ ((k : ℕ) → k < rowCount (a .tasks) → Room (rowAt a k) (rowAt b k)) ⌝ }
+    ensures { λ r. ⌜ r ≡ joined a b ⌝ }
+{
+    let n = row_count(a.tasks);
+    let mut out = empty_report(a.tasks);
+    let mut k: usize = 0;
+    while k < n {
+        let x = a.rows[k];
+        let y = b.rows[k];
+        out.rows[k] = join_rows(x, y);
+        k += 1;
+    }
+    out
+}
+
+// The answer of a refused call: the report as it was.
+pub(crate) fn kept(report: Report, number: u32, place: u32) -> Reported
+    ensures { λ r. ⌜ r ≡ record { outcome = Outcome.Refused number place; report = report } ⌝ }
+{
+    Reported {
+        outcome: Outcome::Refused(number, place),
+        report,
+    }
+}

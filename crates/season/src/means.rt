@@ -1,0 +1,26 @@
+// The mean response as a whole quotient, a remainder and the count. `Mean` stands in report: a module may not have two names that differ only
+// in case.
+ghost use mathlib.Core.Path.{_≡_};
+ghost use Rattle.season.specs.Code.{Short};
+ghost use Rattle.season.specs.Mean.{meanOf};
+use crate::report::Mean;
+use crate::report::Row;
+
+// The sum divided by the count; no sum has more than 10 digits, so the three numbers have at most 21 together.
+pub(crate) fn divided(row: Row) -> Mean
+    ensures is { λ r. ⌜ r ≡ meanOf row ⌝ }
+    ensures short { λ r. ⌜ Short r ⌝ }
+{
+    if 0 < row.finished {
+        Mean::Of(row.sum / row.finished, row.sum % row.finished, row.finished)
+    } else {
+        Mean::None
+    }
+}
+
+// The mean of the row's responses; there is none where no job finished.
+pub fn mean(row: Row) -> Mean
+    ensures { λ r. ⌜ r ≡ meanOf row ⌝ }
+{
+    divided(row)
+}
