@@ -1,4 +1,5 @@
 // The groups of trials: so many inputs of a kind, each numbered, the number being the seed of all that is drawn for it. The odd ones are in SE.
+use crate::chains::try_chains;
 use crate::seasons::try_seasons;
 use crate::stretches::horizon_of;
 use crate::stretches::try_long;
@@ -33,13 +34,16 @@ const WINDOWS: u32 = 2;
 
 const SEASONS: u32 = 3;
 
-const KINDS: u32 = 4;
+const CHAINS: u32 = 4;
+
+const KINDS: u32 = 5;
 
 fn title(kind: u32) {
     match kind {
         LONG_QUESTIONS => text(b"long questions"),
         WINDOWS => text(b"windows"),
         SEASONS => text(b"seasons"),
+        CHAINS => text(b"chains"),
         _ => text(b"stretches"),
     }
 }
@@ -47,6 +51,7 @@ fn title(kind: u32) {
 fn how_many(kind: u32) -> u32 {
     match kind {
         LONG_QUESTIONS => 1,
+        CHAINS => 700,
         _ => 1400,
     }
 }
@@ -88,6 +93,7 @@ fn try_case(t: &mut Tally, kind: u32, case: Case, tasks: &[u32], jobs: &[u32]) {
         LONG_QUESTIONS => try_long(t, case, tasks, jobs),
         WINDOWS => try_windows(t, case, tasks, jobs),
         SEASONS => try_seasons(t, case.trial, tasks),
+        CHAINS => try_chains(t, case.trial),
         _ => try_stretches(t, case, tasks, jobs),
     }
     if before < count(t, DIFFERENCES) {

@@ -21,6 +21,14 @@ pub(crate) const MEAN: usize = 512;
 
 pub(crate) const SHOW: usize = 576;
 
+pub(crate) const APPEND: usize = 640;
+
+pub(crate) const READ: usize = 704;
+
+pub(crate) const LAST: usize = 768;
+
+pub(crate) const WALK: usize = 832;
+
 // What is counted beside the answers.
 pub(crate) const NOT_FRESH: usize = 130;
 
@@ -63,4 +71,13 @@ pub(crate) fn report(t: &Tally) {
     line(t, b"  reports joined, refused for a number alone:", JOIN, 2);
     line(t, b"  no mean, a mean:", MEAN, 2);
     line(t, b"  text of no line, of some:", SHOW, 2);
+    line(t, b"  table appended:", APPEND, 1);
+    line(t, b"  table read at a place:", READ, 1);
+    line(t, b"  table read at the end:", LAST, 1);
+    line(
+        t,
+        b"  file walked as it was written, with a change:",
+        WALK,
+        2,
+    );
 }

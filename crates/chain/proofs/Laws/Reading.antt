@@ -1,0 +1,98 @@
+-- Laws of what is read, by what the checks find.
+use Prim.Native.Nat.{ℕ, _-_, _*_, _<_, _≤_}
+use mathlib.Core.List.{List}
+use mathlib.Core.Path.{ap, refl, sym, _∙_, _≡_}
+use native.Mathlib.Omega.{arith}
+use lib.ListN.{take}
+use Rattle.tables.specs.declared.outcome.Outcome.{Outcome}
+use Rattle.tables.specs.declared.outcome.Outcome.the-variants.{Done, Refused}
+use Rattle.tables.specs.Refusals.{unless}
+use Rattle.tables.proofs.Laws.Refusals.{unless-done, unless-refused}
+use Rattle.chain.specs.declared.answers.Read.{Read}
+use Rattle.chain.specs.declared.layout.Known.{Known}
+use Rattle.chain.specs.declared.layout.Known.the-variants.{Is, Unknown}
+use Rattle.chain.specs.declared.layout.Layout.{Layout}
+use Rattle.chain.specs.declared.trailer.Trailer.{Trailer}
+use Rattle.chain.specs.Answers.{lastAnswer, nothing, passed, readAnswer, readTable, readTrailer, shown}
+use Rattle.chain.specs.Layout.{known, width}
+use Rattle.chain.specs.Refusals.{checkShown, checkTrailer}
+use Rattle.chain.specs.Table.{checkTable, numbersFrom, padded, tableOf}
+use Rattle.chain.specs.Trailer.{trailerAt}
+use Rattle.chain.proofs.Laws.Refusals.{trailer-short}
+use Rattle.chain.proofs.Laws.Table.{length-numbers, many-refused, take-padded}
+
+-- ## A trailer whose places keep the rules
+
+module _ (layout : Layout) (file : List ℕ) (t : Trailer) where
+  abbrev table : List ℕ
+  table = numbersFrom file (t .start) (t .count * width layout)
+
+  table-checked : checkShown (Is layout) file t ≡ checkTable layout table
+  unfolding checkShown tableOf
+  table-checked = refl
+
+  -- over 16 tasks, whatever their numbers
+  pub table-many : 16 < t .count → passed t 2 0 ≡ readTable (Is layout) file t
+  unfolding readTable
+  table-many many =
+      sym (unless-refused (passed t) (shown t (tableOf (Is layout) file t)) (checkShown (Is layout) file t) 2 0 (table-checked ∙ many-refused layout table (t .count) (length-numbers file (t .start) (t .count * width layout)) many))
+
+  -- the table was read to room for 128 numbers, and that part of it checked
+  module _ (n : ℕ) (fields : List ℕ) (size : n ≡ t .count * width layout) (few : n ≤ 128) (is : fields ≡ padded 128 (numbersFrom file (t .start) n)) where
+    checked-is : (found : Outcome) → found ≡ checkTable layout (take n fields) → checkShown (Is layout) file t ≡ found
+    checked-is found e =
+        let list = numbersFrom file (t .start) n in
+        let part : take n fields ≡ list = ap (take n) is ∙ ap (λ (k : ℕ). take k (padded 128 list)) (sym (length-numbers file (t .start) n)) ∙ take-padded 128 list (omega (arith, length-numbers file (t .start) n)) in
+        table-checked ∙ ap (λ (k : ℕ). checkTable layout (numbersFrom file (t .start) k)) (sym size) ∙ ap (checkTable layout) (sym part) ∙ sym e
+
+    pub table-shown : (found : Outcome) → found ≡ checkTable layout (take n fields) → found ≡ Done
+        → _≡_ {A = Read} (record { outcome = Done; layout = t .layout; before = t .before; count = t .count; fields = fields }) (readTable (Is layout) file t)
+    unfolding readTable shown tableOf
+    table-shown found e ok =
+        ap (λ (fs : List ℕ). record { outcome = Done; layout = t .layout; before = t .before; count = t .count; fields = fs })
+        (is ∙ ap (λ (k : ℕ). padded 128 (numbersFrom file (t .start) k)) size)
+        ∙ sym (unless-done (passed t) (shown t (tableOf (Is layout) file t)) (checkShown (Is layout) file t) (checked-is found e ∙ ok))
+
+    pub table-passed : (found : Outcome) (number place : ℕ) → found ≡ checkTable layout (take n fields) → found ≡ Refused number place
+        → passed t number place ≡ readTable (Is layout) file t
+    unfolding readTable
+    table-passed found number place e refuses =
+        sym (unless-refused (passed t) (shown t (tableOf (Is layout) file t)) (checkShown (Is layout) file t) number place (checked-is found e ∙ refuses))
+
+module _ (reader : Layout) (file : List ℕ) (t : Trailer) (k : Known) (is : k ≡ known reader (t .layout)) where
+  pub trailer-known : (own : Layout) → k ≡ Is own → readTable (Is own) file t ≡ readTrailer reader file t
+  unfolding readTrailer
+  trailer-known own e = ap (λ (x : Known). readTable x file t) (sym e ∙ is)
+
+  pub trailer-unknown : k ≡ Unknown → passed t 23 (t .layout) ≡ readTrailer reader file t
+  unfolding readTrailer readTable checkShown unless
+  trailer-unknown e = ap (λ (x : Known). readTable x file t) (sym e ∙ is)
+
+-- ## At a place
+
+module _ (reader : Layout) (file : List ℕ) (used at : ℕ) (found : Outcome) (is : found ≡ checkTrailer reader file used at) where
+  pub read-trailer : found ≡ Done → readAnswer reader file used at ≡ readTrailer reader file (trailerAt file at)
+  unfolding readAnswer
+  read-trailer ok = unless-done nothing (readTrailer reader file (trailerAt file at)) (checkTrailer reader file used at) (sym is ∙ ok)
+
+  pub read-nothing : (number place : ℕ) → found ≡ Refused number place → readAnswer reader file used at ≡ nothing number place
+  unfolding readAnswer
+  read-nothing number place e = unless-refused nothing (readTrailer reader file (trailerAt file at)) (checkTrailer reader file used at) number place (sym is ∙ e)
+
+pub last-short : (reader : Layout) (file : List ℕ) (used : ℕ) → used < 16 → lastAnswer reader file used ≡ nothing 21 0
+unfolding lastAnswer
+last-short reader file used h = read-nothing reader file used (used - 16) (checkTrailer reader file used (used - 16)) refl 21 0 (trailer-short reader file used (used - 16) h)
+
+-- a trailer in a layout that the reader knows: what is checked of its table decides
+module _ (reader : Layout) (file : List ℕ) (t : Trailer) (layout : Layout) (knows : known reader (t .layout) ≡ Is layout) where
+  pub by-refusal : (number place : ℕ) → checkTable layout (tableOf (Is layout) file t) ≡ Refused number place → readTrailer reader file t ≡ passed t number place
+  unfolding readTable checkShown
+  by-refusal number place e =
+      sym (trailer-known reader file t (Is layout) (sym knows) layout refl)
+      ∙ unless-refused (passed t) (shown t (tableOf (Is layout) file t)) (checkTable layout (tableOf (Is layout) file t)) number place e
+
+  pub by-acceptance : checkTable layout (tableOf (Is layout) file t) ≡ Done → readTrailer reader file t ≡ shown t (tableOf (Is layout) file t)
+  unfolding readTable checkShown
+  by-acceptance e =
+      sym (trailer-known reader file t (Is layout) (sym knows) layout refl)
+      ∙ unless-done (passed t) (shown t (tableOf (Is layout) file t)) (checkTable layout (tableOf (Is layout) file t)) e

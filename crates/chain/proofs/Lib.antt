@@ -1,0 +1,4 @@
+pub mod Promise
+pub mod Example
+pub mod Laws
+pub mod Unique
