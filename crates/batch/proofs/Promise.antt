@@ -29,7 +29,8 @@ use Rattle.batch.specs.Answers.{batchAnswer, batchSchedule, checked}
 use Rattle.batch.specs.Refusals.{checkCall, checkRuns, named}
 use Rattle.batch.specs.Runs.{Offer, givenOf, jobsBefore, listOf, offer, placeOf, recordOf, recordsOf, scheduleOf, schedulesOf}
 use Rattle.batch.proofs.Laws.Answers.{answer-done, answer-refused, own-checked, own-outcome, ran-same, schedule-done, schedule-kept, wrote-same}
-use Rattle.batch.proofs.Laws.Refusals.{Fits, Numbered, Whole, batch-call, batch-passes, batch-runs, call-exactly, call-fits, call-numbered, call-seventeen, call-unfit, checks-each, checks-pass, checks-run, checks-zero}
+use Rattle.tables.proofs.Laws.Refusals.{Numbered}
+use Rattle.batch.proofs.Laws.Refusals.{Fits, Whole, batch-call, batch-passes, batch-runs, call-exactly, call-fits, call-numbered, call-seventeen, call-unfit, checks-each, checks-pass, checks-run, checks-zero}
 use Rattle.batch.proofs.Laws.Runs.{length-list, length-place, length-schedules, lists-all, lists-behind, place-ends, record-at, record-none, schedule-part}
 
 module _ (o : Offer) (lent : List ℕ) where

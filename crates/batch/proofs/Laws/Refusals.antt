@@ -14,7 +14,7 @@ use Rattle.tables.specs.declared.outcome.Outcome.{Outcome}
 use Rattle.tables.specs.declared.outcome.Outcome.the-variants.{Done, Refused}
 use Rattle.tables.specs.Refusals.{ascending, before, check2, check3, check4, check9, checkJobs, checkTasks, refuse, unless}
 use Rattle.tables.specs.Tables.{taskCount}
-use Rattle.tables.proofs.Laws.Refusals.{ascending-at, before-first, before-second, fine, refuse-fine}
+use Rattle.tables.proofs.Laws.Refusals.{Numbered, ascending-at, before-first, before-second, fine, numbered-ascending, numbered-before, numbered-refuse, refuse-fine}
 use Rattle.tables.proofs.Laws.Small.{Small, small-tasks}
 use Rattle.batch.specs.declared.refusals.Found.{Found}
 use Rattle.batch.specs.Refusals.{check17, checkBatch, checkCall, checkRuns, first, named}
@@ -171,27 +171,6 @@ module _ (tasks jobs counts : List ℕ) where
           let w = ih number place (ap (λ (x : Found). x .outcome) (sym kept) ∙ says) in
           subst (FirstFound (suc n) number place) (ap (λ (x : Found). x .run) (sym kept))
           (record { there = omega (arith, w .there); here = w .here; earlier = w .earlier })
-
--- a check that refuses has a number that P holds of
-abbrev pub Numbered : (ℕ → Type 0) → Outcome → Type 0
-Numbered P Done = Unit {0}
-Numbered P (Refused number place) = P number
-
-module _ (P : ℕ → Type 0) where
-  numbered-refuse : (b : Bool) (number place : ℕ) → P number → Numbered P (refuse b number place)
-  unfolding refuse
-  numbered-refuse true number place p = p
-  numbered-refuse false number place p = tt
-
-  numbered-before : (a b : Outcome) → Numbered P a → Numbered P b → Numbered P (before a b)
-  unfolding before
-  numbered-before Done b p q = q
-  numbered-before (Refused number place) b p q = p
-
-  numbered-ascending : (f : ℕ → Outcome) (n : ℕ) → ((k : ℕ) → Numbered P (f k)) → Numbered P (ascending n f)
-  unfolding ascending
-  numbered-ascending f zero each = tt
-  numbered-ascending f (suc n) each = numbered-before (ascending n f) (f n) (numbered-ascending f n each) (each n)
 
 -- not from 5 to 8
 abbrev pub Whole : ℕ → Type 0

@@ -72,6 +72,27 @@ module _ (f : ℕ → Outcome) where
   pub refused-here : (n i : ℕ) (c : Outcome) (x y : ℕ) → i < n → ascending i f ≡ Done → c ≡ f i → c ≡ Refused x y → Refused x y ≡ ascending n f
   refused-here n i c x y l q p r = sym (refused-first n i l q (λ z. let w : _≡_ {A = ℕ} 0 1 = cc in omega arith) ∙ sym p ∙ r)
 
+-- a check that refuses has a number that P holds of
+abbrev pub Numbered : (ℕ → Type 0) → Outcome → Type 0
+Numbered P Done = Unit {0}
+Numbered P (Refused number place) = P number
+
+module _ (P : ℕ → Type 0) where
+  pub numbered-refuse : (b : Bool) (number place : ℕ) → P number → Numbered P (refuse b number place)
+  unfolding refuse
+  numbered-refuse true number place p = p
+  numbered-refuse false number place p = tt
+
+  pub numbered-before : (a b : Outcome) → Numbered P a → Numbered P b → Numbered P (before a b)
+  unfolding before
+  numbered-before Done b p q = q
+  numbered-before (Refused number place) b p q = p
+
+  pub numbered-ascending : (f : ℕ → Outcome) (n : ℕ) → ((k : ℕ) → Numbered P (f k)) → Numbered P (ascending n f)
+  unfolding ascending
+  numbered-ascending f zero each = tt
+  numbered-ascending f (suc n) each = numbered-before (ascending n f) (f n) (numbered-ascending f n each) (each n)
+
 -- what is answered where nothing is refused, and where something is
 module _ {A : Type 0} (refused : ℕ → ℕ → A) (answer : A) where
   pub unless-done : (o : Outcome) → o ≡ Done → unless o refused answer ≡ answer

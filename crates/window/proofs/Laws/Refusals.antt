@@ -1,5 +1,5 @@
 -- Laws of what `judge` checks: all verdicts tell what the lists and the record are refused with, and which check decides.
-use Prim.Native.Nat.{ℕ, zero, suc, _<_, _≤_}
+use Prim.Native.Nat.{ℕ, _<_, _≤_}
 use mathlib.Core.Bool.{Bool, false, not, true, _||_}
 use mathlib.Core.List.{List}
 use mathlib.Core.Logic.{inl, inr, _↔_, _⊎_}
@@ -9,10 +9,10 @@ use lib.Dec.{eqb, ltb}
 use borrow.Author.Tests.{eqb-false, le-ltb, lt-ltb, ltb-false, ltb-true, ne-eqb, not-false, not-true}
 use Rattle.tables.specs.declared.outcome.Outcome.{Outcome}
 use Rattle.tables.specs.declared.outcome.Outcome.the-variants.{Done, Refused}
-use Rattle.tables.specs.Refusals.{ascending, before, check13, check2, check3, check4, check5, check6, check7, check8, checkJobs, checkLists, checkTasks, refuse, unless}
+use Rattle.tables.specs.Refusals.{before, check13, check2, check3, check4, check5, check6, check7, check8, checkJobs, checkLists, checkTasks, refuse, unless}
 use Rattle.tables.specs.Tables.{Lists, jobCount, taskCount}
 use Rattle.tables.proofs.Laws.Accepted.{lists-few}
-use Rattle.tables.proofs.Laws.Refusals.{before-first, before-second, fine, refuse-fine}
+use Rattle.tables.proofs.Laws.Refusals.{Numbered, before-first, before-second, fine, numbered-ascending, numbered-before, numbered-refuse, refuse-fine}
 use Rattle.tables.proofs.Readings.{before-refused}
 use Rattle.zsrm.specs.declared.answers.Verdict.{Verdict}
 use Rattle.zsrm.specs.declared.answers.Verdict.the-variants as verdicts
@@ -27,42 +27,27 @@ use Rattle.zsrm.proofs.Readings.{verdict-reads}
 use Rattle.window.specs.Code.{checkAll, refusedBy}
 use Rattle.window.specs.Refusals.{check19, check20, checkJudge}
 
--- a check that refuses does so with a number below n
-abbrev Below : ℕ → Outcome → Type 0
-Below n Done = Unit {0}
-Below n (Refused number place) = number < n
+abbrev UpToEight : ℕ → Type 0
+UpToEight number = number ≤ 8
 
-module _ (n : ℕ) where
-  below-refuse : (b : Bool) (number place : ℕ) → number < n → Below n (refuse b number place)
-  unfolding refuse
-  below-refuse true number place l = l
-  below-refuse false number place l = tt
-
-  below-before : (a b : Outcome) → Below n a → Below n b → Below n (before a b)
-  unfolding before
-  below-before Done b h k = k
-  below-before (Refused number place) b h k = h
-
-  below-ascending : (f : ℕ → Outcome) (i : ℕ) → ((k : ℕ) → Below n (f k)) → Below n (ascending i f)
-  unfolding ascending
-  below-ascending f zero h = tt
-  below-ascending f (suc i) h = below-before (ascending i f) (f i) (below-ascending f i h) (h i)
+abbrev UpToEleven : ℕ → Type 0
+UpToEleven number = number ≤ 11
 
 -- the lists are refused with 2 to 8 ..
-lists-below : (l : Lists) → Below 9 (checkLists l)
+lists-numbered : (l : Lists) → Numbered UpToEight (checkLists l)
 unfolding checkLists checkTasks check2 check3 check4 checkJobs check5 check6 check7 check8
-lists-below l =
-    below-before 9 (checkTasks (l .tasks)) (checkJobs (l .tasks) (l .jobs))
-    (below-before 9 (check2 (l .tasks)) _ (below-refuse 9 _ 2 0 (omega arith))
-    (below-ascending 9 _ (taskCount (l .tasks)) (λ k. below-before 9 (check3 (l .tasks) k) (check4 (l .tasks) k) (below-refuse 9 _ 3 k (omega arith)) (below-refuse 9 _ 4 k (omega arith)))))
-    (below-before 9 (check5 (l .jobs)) _ (below-refuse 9 _ 5 0 (omega arith))
-    (below-ascending 9 _ (jobCount (l .jobs))
-    (λ j. below-before 9 (check6 (l .tasks) (l .jobs) j) _ (below-refuse 9 _ 6 j (omega arith)) (below-before 9 (check7 (l .jobs) j) (check8 (l .tasks) (l .jobs) j) (below-refuse 9 _ 7 j (omega arith)) (below-refuse 9 _ 8 j (omega arith))))))
+lists-numbered l =
+    numbered-before UpToEight (checkTasks (l .tasks)) (checkJobs (l .tasks) (l .jobs))
+    (numbered-before UpToEight (check2 (l .tasks)) _ (numbered-refuse UpToEight _ 2 0 (omega arith))
+    (numbered-ascending UpToEight _ (taskCount (l .tasks)) (λ k. numbered-before UpToEight (check3 (l .tasks) k) (check4 (l .tasks) k) (numbered-refuse UpToEight _ 3 k (omega arith)) (numbered-refuse UpToEight _ 4 k (omega arith)))))
+    (numbered-before UpToEight (check5 (l .jobs)) _ (numbered-refuse UpToEight _ 5 0 (omega arith))
+    (numbered-ascending UpToEight _ (jobCount (l .jobs))
+    (λ j. numbered-before UpToEight (check6 (l .tasks) (l .jobs) j) _ (numbered-refuse UpToEight _ 6 j (omega arith)) (numbered-before UpToEight (check7 (l .jobs) j) (check8 (l .tasks) (l .jobs) j) (numbered-refuse UpToEight _ 7 j (omega arith)) (numbered-refuse UpToEight _ 8 j (omega arith))))))
 
 -- .. and the record with 11: never with 13
-record-below : (b : Bool) → Below 12 (check11 b)
+record-numbered : (b : Bool) → Numbered UpToEleven (check11 b)
 unfolding check11
-record-below b = below-refuse 12 (not b) 11 0 (omega arith)
+record-numbered b = numbered-refuse UpToEleven (not b) 11 0 (omega arith)
 
 kept : (number place : ℕ) → number < 13 → refuse (not (eqb number 13)) number place ≡ Refused number place
 unfolding refuse
@@ -79,9 +64,9 @@ answered verdicts.Open never = refl
 pub first-tells : (g : Given) (r : Record) → refusedBy (verdictAnswer g r 0) ≡ before (checkLists (g .lists)) (check11 (consistent g r))
 unfolding verdictAnswer checkVerdict check13 before unless refuse
 first-tells g r =
-    go (checkLists (g .lists)) (check11 (consistent g r)) (not (ltb 0 (jobCount (g .lists .jobs)))) (lists-below (g .lists)) (record-below (consistent g r))
+    go (checkLists (g .lists)) (check11 (consistent g r)) (not (ltb 0 (jobCount (g .lists .jobs)))) (lists-numbered (g .lists)) (record-numbered (consistent g r))
   where
-    go : (a b : Outcome) (t : Bool) → Below 9 a → Below 12 b → refusedBy (unless (before a (before b (refuse t 13 0))) verdicts.Refused (verdict (g .lists) r 0)) ≡ before a b
+    go : (a b : Outcome) (t : Bool) → Numbered UpToEight a → Numbered UpToEleven b → refusedBy (unless (before a (before b (refuse t 13 0))) verdicts.Refused (verdict (g .lists) r 0)) ≡ before a b
     go (Refused number place) b t h k = kept number place (omega arith)
     go Done (Refused number place) t h k = kept number place (omega arith)
     go Done Done true h k = refl
@@ -233,7 +218,7 @@ module _ (g : Given) (r : Record) (task m k : ℕ) where
 
   -- no list is refused with 9 or more
   never-lists : {A : Type 0} (number place : ℕ) → 9 ≤ number → checkLists (g .lists) ≡ Refused number place → A
-  never-lists number place l e = absurd (let small = subst (Below 9) e (lists-below (g .lists)) in omega arith)
+  never-lists number place l e = absurd (let small = subst (Numbered UpToEight) e (lists-numbered (g .lists)) in omega arith)
 
   pub record-refuses : checkJudge g r task m k ≡ Refused 11 0 ↔ (checkLists (g .lists) ≡ Done) × (consistent g r ≡ false)
   unfolding checkJudge before check11 refuse
