@@ -12,7 +12,7 @@ use Rattle.tables.specs.Tables.{criticality, deadline, nominal, offset, overloa
 use Rattle.chain.specs.declared.answers.Read.{Read}
 use Rattle.chain.specs.declared.layout.Layout.{Layout}
 use Rattle.chain.specs.declared.layout.Layout.the-variants.{One, Two}
-use Rattle.chain.specs.Answers.{appendAnswer, appendFile, newTrailer, nothing, passed, readAnswer, readTable, readTrailer, shown}
+use Rattle.chain.specs.Answers.{appendAnswer, appendFile, newTrailer, nothing, passed, readAnswer, readAt, readTable, readTrailer, shown}
 use Rattle.chain.specs.Bytes.{bytesOf}
 use Rattle.chain.specs.Layout.{known}
 use Rattle.chain.specs.Refusals.{check21, check22, check24, checkAppend, checkLast, checkShown, checkTrailer}
@@ -73,6 +73,13 @@ readings =
 abbrev placed : List ℕ → List ℕ
 placed numbers = outcomeSaid (checkTrailer Two (bytesOf numbers) 16 0)
 
+-- With 4,294,967,311 used bytes, and one byte less, 21 of the place that is none's number; 22 of a trailer there, of one task in the 28 bytes
+-- before it; 24 behind it.
+abbrev atNone : List (List ℕ)
+atNone =
+    outcomeSaid (check21 4294967311 4294967311 none) ∷ outcomeSaid (check21 4294967311 4294967310 none)
+    ∷ outcomeSaid (check22 One (record { start = 4294967267; before = none; layout = 1; count = 1 }) none) ∷ outcomeSaid (check24 4294967355 4294967311 7) ∷ []
+
 -- a layout, a lent list, a used length and a table, with what an append answers
 pub data Appending : Type 0 where
   gives : Layout → List ℕ → ℕ → List ℕ → List ℕ → Appending
@@ -101,10 +108,11 @@ pub record Examples : Type 0 where
   pub walked : walk One file 92 76 ≡ refuses 23 2 2 28 ∷ shows 1 none 1 first ∷ []
   pub places : placed (0 ∷ none ∷ 7 ∷ 5 ∷ []) ∷ placed (0 ∷ none ∷ 1 ∷ 1073741824 ∷ []) ∷ placed (0 ∷ 0 ∷ 7 ∷ 5 ∷ []) ∷ placed (0 ∷ 4294967280 ∷ 7 ∷ 5 ∷ []) ∷ []
       ≡ done ∷ refused 22 0 ∷ refused 22 0 ∷ refused 22 0 ∷ []
+  pub at-none : atNone ≡ done ∷ refused 21 0 ∷ done ∷ refused 24 0 ∷ []
   pub gap : outcomeSaid (checkTrailer One (bytesOf (99 ∷ first ++ (4 ∷ none ∷ 1 ∷ 1 ∷ []))) 48 32) ≡ done
   pub no-task : readAnswer One (bytesOf (0 ∷ none ∷ 1 ∷ 0 ∷ [])) 16 0 ≡ refuses 2 0 1 none
   pub appended : map came appendings ≡ map comes appendings
 
 pub examples : Examples
-unfolding listFrom numberAt ascending before check2 check3 check4 checkTasks outside refuse unless criticality deadline nominal offset overload period priority taskCount outcomeSaid nothing passed shown readTable readTrailer readAnswer newTrailer appendAnswer appendFile bytesOf known check21 check22 check24 checkAppend checkLast checkShown checkTrailer checkTable numbersFrom padded tableOf unlabelled endOf lastPlace misfits trailerNumbers trailerAt appendedSaid grows growsBy opened season turns walk
-examples = record { written = refl; read-back = refl; walked = refl; places = refl; gap = refl; no-task = refl; appended = refl }
+unfolding listFrom numberAt ascending before check2 check3 check4 checkTasks outside refuse unless criticality deadline nominal offset overload period priority taskCount outcomeSaid nothing passed shown readTable readTrailer readAt readAnswer newTrailer appendAnswer appendFile bytesOf known check21 check22 check24 checkAppend checkLast checkShown checkTrailer checkTable numbersFrom padded tableOf unlabelled endOf lastPlace misfits trailerNumbers trailerAt appendedSaid grows growsBy opened season turns walk
+examples = record { written = refl; read-back = refl; walked = refl; places = refl; at-none = refl; gap = refl; no-task = refl; appended = refl }

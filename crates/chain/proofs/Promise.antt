@@ -2,15 +2,16 @@
 --
 -- `readAnswer reader file used at` and `lastAnswer reader file used` are the whole contracts of `read` and `last`; `appendAnswer layout file
 -- used table` is what `append` answers and `appendFile layout file used table` what the lent list holds afterwards, together its whole
--- contract. `trailerAt file at` is what the 16 bytes at a place say, `none` is 4,294,967,295, `lastPlace used` the place of the last trailer,
--- none where no byte is used, and `endAfter used n` where a table of n numbers and its trailer end. An answer with nothing told is `nothing`,
+-- contract. `trailerAt file at` is what the 16 bytes at a place say, and `readAt reader file used at` what is read of them: what `last` answers
+-- at the last 16 bytes, and `read` at every place but `none`, which is 4,294,967,295. `lastPlace used` is the place of the last trailer, none
+-- where no byte is used, and `endAfter used n` where a table of n numbers and its trailer end. An answer with nothing told is `nothing`,
 -- one that is refused but told of `passed`, one that shows its table `shown`. `Whole` and `Kept` are what 21 and 22 ask for, `Numbers` that
 -- numbers are of 32 bits, and `Each` that those of every table are, as those of a lent table always are; so are bytes below 256, as `far-place`
 -- asks. `..Said` says an answer in numbers.
 use Prim.Native.Nat.{ℕ, _+_, _-_, _*_, _/_, _<_, _≤_}
 use mathlib.Core.Bool.{false}
 use mathlib.Core.List.{List, [], _∷_, map}
-use mathlib.Core.Logic.{_↔_, _⊎_, ⊎-elim}
+use mathlib.Core.Logic.{Iff·trans, _↔_, _⊎_, ⊎-elim}
 use mathlib.Core.Path.{ap, ap₂, refl, sym, _∙_, _≡_}
 use native.Mathlib.Nat.{zero-mul}
 use native.Mathlib.Omega.{arith}
@@ -26,7 +27,7 @@ use Rattle.chain.specs.declared.answers.Read.{Read}
 use Rattle.chain.specs.declared.layout.Known.the-variants.{Is, Unknown}
 use Rattle.chain.specs.declared.layout.Layout.{Layout}
 use Rattle.chain.specs.declared.layout.Layout.the-variants.{One, Two}
-use Rattle.chain.specs.Answers.{appendAnswer, appendFile, lastAnswer, newTrailer, nothing, passed, readAnswer, shown}
+use Rattle.chain.specs.Answers.{appendAnswer, appendFile, lastAnswer, newTrailer, nothing, passed, readAnswer, readAt, shown}
 use Rattle.chain.specs.Bytes.{bytesOf}
 use Rattle.chain.specs.Layout.{known, numberOf, width}
 use Rattle.chain.specs.Refusals.{checkAppend, checkLast, checkTrailer, endAfter}
@@ -36,11 +37,11 @@ use Rattle.chain.specs.Trailer.{lastPlace, misfits, none, trailerAt}
 use Rattle.chain.specs.Walk.{Table, ahead, opened, season, told, toldOf, walk}
 use Rattle.chain.proofs.Laws.Appended.{Numbers, above-after, below-after, length-after, read-known, read-unknown}
 use Rattle.chain.proofs.Laws.Appending.{answers-refused, answers-used, last-checked, last-is, last-none, new-checked, written}
-use Rattle.chain.proofs.Laws.Cases.{fills-known, full, last-numbers, number-most, padded-zero, passing, read-empty, shows, trailer-21, trailer-22, trailer-done}
-use Rattle.chain.proofs.Laws.Reading.{by-acceptance, by-refusal, last-short, read-nothing, read-trailer, trailer-unknown}
+use Rattle.chain.proofs.Laws.Cases.{either-empty, either-unused, fills-known, full, last-few, last-numbers, not-whole, number-most, passing, past-numbers, trailer-21, trailer-22, trailer-done, unread-last, whole-not-21, whole-numbers, whole-or}
+use Rattle.chain.proofs.Laws.Reading.{by-acceptance, by-refusal, last-short, last-there, read-none, read-nothing, read-there, read-trailer, trailer-unknown}
 use Rattle.chain.proofs.Laws.Refusals.{Kept, Whole, end-of-place}
 use Rattle.chain.proofs.Laws.Said.{appended-said}
-use Rattle.chain.proofs.Laws.Same.{goes-back, read-same, read-told}
+use Rattle.chain.proofs.Laws.Same.{goes-back, read-same, read-told, there-back}
 use Rattle.chain.proofs.Laws.Season.{Each, Took, next-checked, opened-good, refused-by, refused-keeps, season-good, took}
 use Rattle.chain.proofs.Laws.Table.{length-numbers, many-refused, none-refused}
 use Rattle.chain.proofs.Laws.Walk.{ahead-less, length-walk, walk-none, walk-on}
@@ -48,35 +49,60 @@ use Rattle.chain.proofs.Laws.Walk.{ahead-less, length-walk, walk-none, 
 -- ## Reading
 
 module _ (reader : Layout) (file : List ℕ) (used : ℕ) where
-  -- `last` reads at the last 16 bytes ..
-  pub last-is-read : lastAnswer reader file used ≡ readAnswer reader file used (used - 16)
-  unfolding lastAnswer
-  last-is-read = refl
+  -- `last` answers what is read of the trailer in the last 16 bytes, wherever it lies ..
+  pub last-is-there : lastAnswer reader file used ≡ readAt reader file used (used - 16)
+  last-is-there = last-there reader file used
 
-  -- .. and where there are fewer, answers 21.
+  -- .. which is what `read` answers at its place, where that is not none ..
+  pub last-is-read : (used - 16 ≡ none → ⊥) → lastAnswer reader file used ≡ readAnswer reader file used (used - 16)
+  last-is-read some = last-there reader file used ∙ sym (read-there reader file used (used - 16) some)
+
+  -- .. and where there are fewer bytes, 21.
   pub too-few : used < 16 → lastAnswer reader file used ≡ nothing 21 0
   too-few few = last-short reader file used few
 
+  -- `read` at none answers 21, as there the number means that there is no trailer ..
+  pub none-is-21 : readAnswer reader file used none ≡ nothing 21 0
+  none-is-21 = read-none reader file used none refl
+
+  -- .. and at every other place what is read of the trailer there.
+  pub read-is-there : (at : ℕ) → (at ≡ none → ⊥) → readAnswer reader file used at ≡ readAt reader file used at
+  read-is-there at some = read-there reader file used at some
+
+-- What is read of the trailer at a place, by `last` and by `read`.
 module _ (reader : Layout) (file : List ℕ) (used at : ℕ) where
-  -- 21: the used length passes the list, or no whole trailer lies at the place, or the place is none. Nothing is told, and there is no
-  -- trailer to go on to.
-  pub no-trailer : (Whole (length file) used at → ⊥) → readAnswer reader file used at ≡ nothing 21 0
+  -- 21, exactly where the used length passes the list, or no whole trailer lies at the place. Nothing is told, and there is no trailer to go
+  -- on to.
+  pub no-trailer : (Whole (length file) used at → ⊥) → readAt reader file used at ≡ nothing 21 0
   no-trailer never = read-nothing reader file used at (Refused 21 0) (sym (trailer-21 reader file used at never)) 21 0 refl
+
+  pub no-trailer-exactly : outcomeSaid (readAt reader file used at .outcome) ≡ refused 21 0 ↔ (length file < used) ⊎ (used < at + 16)
+  unfolding outcomeSaid nothing
+  no-trailer-exactly = (
+    λ says. ⊎-elim (λ w. absurd (whole-not-21 reader file used at w 0 (outcome-said _ (Refused 21 0) says))) (λ h. h) (whole-or (length file) used at),
+    λ h. ap (λ (r : Read). outcomeSaid (r .outcome)) (no-trailer (not-whole (length file) used at h)),
+  )
 
   -- Where a whole trailer lies at the place ..
   module _ (whole : Whole (length file) used at) where
-    -- .. and its table starts before the preceding trailer's end, or after its own trailer, or, in a layout that the reader knows, does not end
-    -- there, 22 is given.
-    pub broken : (Kept reader (trailerAt file at) at → ⊥) → readAnswer reader file used at ≡ nothing 22 0
+    -- .. 21 is not given: a refusal is 22, 23 or 2 to 4.
+    pub whole-refusals : (number place : ℕ) → outcomeSaid (readAt reader file used at .outcome) ≡ refused number place
+        → (number ≡ 22) ⊎ (number ≡ 23) ⊎ ((2 ≤ number) × (number ≤ 4))
+    unfolding outcomeSaid
+    whole-refusals number place says = whole-numbers reader file used at whole number place (outcome-said _ (Refused number place) says)
+
+    -- Where its table starts before the preceding trailer's end, or after its own trailer, or, in a layout that the reader knows, does not end
+    -- there, it is 22.
+    pub broken : (Kept reader (trailerAt file at) at → ⊥) → readAt reader file used at ≡ nothing 22 0
     broken never = read-nothing reader file used at (Refused 22 0) (sym (trailer-22 reader file used at whole never)) 22 0 refl
 
     -- So a preceding trailer that does not end before this one, itself or a later one among them, is 22 ..
-    pub never-forward : (trailerAt file at .before ≡ none → ⊥) → at < trailerAt file at .before + 16 → readAnswer reader file used at ≡ nothing 22 0
+    pub never-forward : (trailerAt file at .before ≡ none → ⊥) → at < trailerAt file at .before + 16 → readAt reader file used at ≡ nothing 22 0
     never-forward some ahead = broken (λ k. omega (arith, k .behind, k .within, end-of-place (trailerAt file at .before) some))
 
     -- .. and so is a place from 4,294,967,280 on that is not none, as no table starts behind its end.
     pub far-place : ((i : ℕ) → getD file i 0 < 256) → (trailerAt file at .before ≡ none → ⊥) → 4294967280 ≤ trailerAt file at .before
-        → readAnswer reader file used at ≡ nothing 22 0
+        → readAt reader file used at ≡ nothing 22 0
     unfolding trailerAt
     far-place bytes some far =
         broken (λ k. omega (arith, k .behind, end-of-place (trailerAt file at .before) some, number-most file bytes at))
@@ -87,25 +113,25 @@ module _ (reader : Layout) (file : List ℕ) (used at : ℕ) where
       passes = trailer-done reader file used at whole kept
 
       -- .. its layout and the preceding trailer are told, whatever is found of its table.
-      pub told-of : (readAnswer reader file used at .layout ≡ trailerAt file at .layout) × (readAnswer reader file used at .before ≡ trailerAt file at .before)
+      pub told-of : (readAt reader file used at .layout ≡ trailerAt file at .layout) × (readAt reader file used at .before ≡ trailerAt file at .before)
       told-of = read-told reader file used at passes
 
       -- A layout that the reader does not know is 23, with the layout as the place, and no fields.
-      pub other-layout : known reader (trailerAt file at .layout) ≡ Unknown → readAnswer reader file used at ≡ passed (trailerAt file at) 23 (trailerAt file at .layout)
+      pub other-layout : known reader (trailerAt file at .layout) ≡ Unknown → readAt reader file used at ≡ passed (trailerAt file at) 23 (trailerAt file at .layout)
       other-layout not-known =
           read-trailer reader file used at Done (sym passes) refl ∙ sym (trailer-unknown reader file (trailerAt file at) Unknown (sym not-known) refl)
 
       -- In one that it knows, the table is refused with 2, 3 or 4, as document 01 has them for its seven numbers per task ..
       module _ (layout : Layout) (knows : known reader (trailerAt file at .layout) ≡ Is layout) where
         pub table-refused : (number place : ℕ) → outcomeSaid (checkTable layout (tableOf (Is layout) file (trailerAt file at))) ≡ refused number place
-            → readAnswer reader file used at ≡ passed (trailerAt file at) number place
+            → readAt reader file used at ≡ passed (trailerAt file at) number place
         unfolding outcomeSaid
         table-refused number place says =
             read-trailer reader file used at Done (sym passes) refl
             ∙ by-refusal reader file (trailerAt file at) layout knows number place (outcome-said _ (Refused number place) says)
 
         -- .. 2 where the count is 0 or over 16 ..
-        pub count-refused : (trailerAt file at .count ≡ 0) ⊎ (16 < trailerAt file at .count) → readAnswer reader file used at ≡ passed (trailerAt file at) 2 0
+        pub count-refused : (trailerAt file at .count ≡ 0) ⊎ (16 < trailerAt file at .count) → readAt reader file used at ≡ passed (trailerAt file at) 2 0
         unfolding outcomeSaid tableOf
         count-refused few-or-many =
             let t = trailerAt file at in
@@ -116,7 +142,7 @@ module _ (reader : Layout) (file : List ℕ) (used at : ℕ) where
 
         -- .. or shown.
         pub table-shown : outcomeSaid (checkTable layout (tableOf (Is layout) file (trailerAt file at))) ≡ done
-            → readAnswer reader file used at ≡ shown (trailerAt file at) (tableOf (Is layout) file (trailerAt file at))
+            → readAt reader file used at ≡ shown (trailerAt file at) (tableOf (Is layout) file (trailerAt file at))
         unfolding outcomeSaid
         table-shown says =
             read-trailer reader file used at Done (sym passes) refl
@@ -128,30 +154,45 @@ module _ (reader : Layout) (file : List ℕ) (used at : ℕ) where
       ↔ trailerAt file at .start + trailerAt file at .count * width layout * 4 ≡ at
   fills-exactly layout knows = rw knows (fills-known layout (trailerAt file at) at)
 
-  -- After every refusal the count and all fields are 0 ..
-  pub refused-empty : (number place : ℕ) → outcomeSaid (readAnswer reader file used at .outcome) ≡ refused number place
-      → (readAnswer reader file used at .count ≡ 0) × (readAnswer reader file used at .fields ≡ replicate 128 0)
-  unfolding outcomeSaid
-  refused-empty number place says = read-empty reader file used at number place (outcome-said _ (Refused number place) says)
+  -- Whatever `read` or `last` answers ..
+  module _ (r : Read) (either : (r ≡ readAnswer reader file used at) ⊎ (r ≡ lastAnswer reader file used)) where
+    -- .. after every refusal the count and all fields are 0 ..
+    pub refused-empty : (number place : ℕ) → outcomeSaid (r .outcome) ≡ refused number place → (r .count ≡ 0) × (r .fields ≡ replicate 128 0)
+    unfolding outcomeSaid
+    refused-empty number place says = either-empty reader file used at r either number place (outcome-said _ (Refused number place) says)
 
-  -- .. and where nothing is refused, the fields behind those of the tasks counted.
-  pub unused-zero : outcomeSaid (readAnswer reader file used at .outcome) ≡ done
-      → (layout : Layout) × (known reader (readAnswer reader file used at .layout) ≡ Is layout)
-      × ((i : ℕ) → readAnswer reader file used at .count * width layout ≤ i → getD (readAnswer reader file used at .fields) i 0 ≡ 0)
-  unfolding outcomeSaid shown tableOf
-  unused-zero says =
-      let w = shows reader file used at (outcome-said _ Done says) in
-      let t = trailerAt file at in
-      let table = tableOf (Is (w .layout)) file t in (
-        w .layout,
-        ap (λ (r : Read). known reader (r .layout)) (w .is) ∙ w .knows,
-        λ i l. ap (λ (r : Read). getD (r .fields) i 0) (w .is)
-            ∙ padded-zero 128 table i (omega (arith, l, ap (λ (r : Read). r .count * width (w .layout)) (w .is), length-numbers file (t .start) (t .count * width (w .layout)))),
-      )
+    -- .. and where nothing is refused, the fields behind those of the tasks counted.
+    pub unused-zero : outcomeSaid (r .outcome) ≡ done
+        → (layout : Layout) × (known reader (r .layout) ≡ Is layout) × ((i : ℕ) → r .count * width layout ≤ i → getD (r .fields) i 0 ≡ 0)
+    unfolding outcomeSaid
+    unused-zero says = either-unused reader file used at r either (outcome-said _ Done says)
 
-  -- ## The walk ends, for any bytes
+-- `last` gives 21 exactly where the used length passes the list or is below 16 ..
+pub last-21-exactly : (reader : Layout) (file : List ℕ) (used : ℕ) → outcomeSaid (lastAnswer reader file used .outcome) ≡ refused 21 0 ↔ (length file < used) ⊎ (used < 16)
+unfolding lastAnswer
+last-21-exactly reader file used = Iff·trans (no-trailer-exactly reader file used (used - 16)) (last-few (length file) used)
 
-  -- Every answer leads to none, or at least 16 bytes back ..
+-- .. so that with 4,294,967,311 used bytes it answers by the trailer at byte 4,294,967,295 ..
+pub last-at-none : (reader : Layout) (file : List ℕ) → lastAnswer reader file 4294967311 ≡ readAt reader file 4294967311 none
+last-at-none reader file = last-is-there reader file 4294967311
+
+-- .. and in a list at least as long, where that trailer is whole, a refusal is 22, 23 or 2 to 4.
+pub last-at-none-refusals : (reader : Layout) (file : List ℕ) → 4294967311 ≤ length file
+    → (number place : ℕ) → outcomeSaid (lastAnswer reader file 4294967311 .outcome) ≡ refused number place
+    → (number ≡ 22) ⊎ (number ≡ 23) ⊎ ((2 ≤ number) × (number ≤ 4))
+unfolding lastAnswer
+last-at-none-refusals reader file long number place says =
+    whole-refusals reader file 4294967311 none (record { fits = long; ends = omega arith }) number place says
+
+-- ## The walk ends, for any bytes
+
+-- What `last` answers leads to none, or at least 16 bytes back from the last trailer.
+pub last-leads-back : (reader : Layout) (file : List ℕ) (used : ℕ) → (lastAnswer reader file used .before ≡ none) ⊎ (lastAnswer reader file used .before + 16 ≤ used - 16)
+unfolding lastAnswer
+last-leads-back reader file used = there-back reader file used (used - 16)
+
+module _ (reader : Layout) (file : List ℕ) (used at : ℕ) where
+  -- What `read` answers leads to none, or at least 16 bytes back ..
   pub leads-back : (readAnswer reader file used at .before ≡ none) ⊎ (readAnswer reader file used at .before + 16 ≤ at)
   leads-back = goes-back reader file used at
 
@@ -226,6 +267,22 @@ module _ (layout : Layout) (file : List ℕ) (used : ℕ) (table : List ℕ) whe
         λ p. ap appendedSaid (sym (answers-refused layout file used table (Refused 24 0) (sym (w .1 (outcome-said _ Done (p .0), outcome-said _ Done (p .1), p .2))) 24 0 refl)),
       )
 
+  -- 21 is given exactly where the used length is not 0, and passes the list or is below 16 ..
+  pub append-21-exactly : appendedSaid (appendAnswer layout file used table) ≡ refused 21 0 ↔ (used ≡ 0 → ⊥) × ((length file < used) ⊎ (used < 16))
+  unfolding appendedSaid
+  append-21-exactly = (
+    λ says. unread-last layout file used table 0 (refused-by layout file used table 21 0 (appended-said _ (appends.Refused 21 0) says)),
+    λ w. last-21 (w .0) (not-whole (length file) used (used - 16) (last-few (length file) used .1 (w .1))),
+  )
+
+  -- .. so that past 4,294,967,295 used bytes of a list, with 4,294,967,311 too, where the last trailer lies at byte 4,294,967,295, an append is
+  -- refused with 22, 2 to 4 or 24, and never taken.
+  pub past-all-places : 4294967295 < used → used ≤ length file
+      → (number : ℕ) × (place : ℕ) × (appendedSaid (appendAnswer layout file used table) ≡ refused number place)
+      × ((number ≡ 22) ⊎ ((2 ≤ number) × (number ≤ 4)) ⊎ (number ≡ 24))
+  unfolding appendedSaid
+  past-all-places past fits = let w = past-numbers layout file used table past fits in (w .0, w .1, ap appendedSaid (w .2), w .3)
+
   -- The last trailer is checked by 21 and 22 alone, both layouts known: what a reader of layout 2 reads there with any other outcome, 23 for a
   -- layout that nobody knows among them, stops no append; nor does a used length of 0.
   pub last-passes : (outcomeSaid (lastAnswer Two file used .outcome) ≡ refused 21 0 → ⊥) → (outcomeSaid (lastAnswer Two file used .outcome) ≡ refused 22 0 → ⊥)
@@ -275,9 +332,9 @@ module _ (layout : Layout) (file : List ℕ) (used : ℕ) (table : List ℕ) whe
 
     at-the-end : (reader : Layout) → lastAnswer reader (appendFile layout file used table) end
         ≡ readAnswer reader (sets file used (bytesOf (written layout file used table))) (endAfter used (length table)) (used + length table * 4)
-    unfolding lastAnswer
     at-the-end reader =
-        ap₂ (λ (f : List ℕ) (e : ℕ). readAnswer reader f e (e - 16)) (is .wrote) (is .ends)
+        last-is-read reader (appendFile layout file used table) end (λ e. omega (arith, is .ends, is .checks .space .placed))
+        ∙ ap₂ (λ (f : List ℕ) (e : ℕ). readAnswer reader f e (e - 16)) (is .wrote) (is .ends)
         ∙ ap (readAnswer reader (sets file used (bytesOf (written layout file used table))) (endAfter used (length table))) (let e : endAfter used (length table) - 16 ≡ used + length table * 4 = omega arith in e)
 
     -- .. a reader that knows the layout reads at the new end the table, its count, and the former last trailer ..

@@ -1,6 +1,8 @@
 -- What reading and appending answer, refusals first, and what the lent list of bytes holds afterwards.
 use Prim.Native.Nat.{ℕ, _-_, _/_}
+use mathlib.Core.Bool.{cond}
 use mathlib.Core.List.{List, _++_}
+use lib.Dec.{eqb}
 use lib.ListN.{length, replicate}
 use lib.Seq.{sets}
 use Rattle.tables.specs.declared.outcome.Outcome.the-variants.{Done, Refused}
@@ -36,13 +38,17 @@ readTable layout file t = unless (checkShown layout file t) (passed t) (shown t 
 unfoldable pub readTrailer : Layout → List ℕ → Trailer → Read
 readTrailer reader file t = readTable (known reader (t .layout)) file t
 
--- what is read at a place
+-- what is read of the trailer at a place: 21 and 22 first
+unfoldable pub readAt : Layout → List ℕ → ℕ → ℕ → Read
+readAt reader file used at = unless (checkTrailer reader file used at) nothing (readTrailer reader file (trailerAt file at))
+
+-- what is read at a place that is given by its number: 4,294,967,295 is none, where there is no trailer
 unfoldable pub readAnswer : Layout → List ℕ → ℕ → ℕ → Read
-readAnswer reader file used at = unless (checkTrailer reader file used at) nothing (readTrailer reader file (trailerAt file at))
+readAnswer reader file used at = cond (eqb at none) (nothing 21 0) (readAt reader file used at)
 
 -- what is read at the last 16 bytes; where there are fewer, no whole trailer is at byte 0 either
 unfoldable pub lastAnswer : Layout → List ℕ → ℕ → Read
-lastAnswer reader file used = readAnswer reader file used (used - 16)
+lastAnswer reader file used = readAt reader file used (used - 16)
 
 -- the trailer that an append of so many numbers writes: the table starts at the used length, behind the last trailer
 unfoldable pub newTrailer : Layout → ℕ → ℕ → Trailer

@@ -14,11 +14,11 @@ use Rattle.chain.specs.declared.layout.Layout.the-variants.{Two}
 use Rattle.chain.specs.declared.trailer.Trailer.{Trailer}
 use Rattle.chain.specs.Layout.{known}
 use Rattle.chain.specs.Table.{checkTable, tableOf}
-use Rattle.chain.specs.Trailer.{endOf, misfits, none, trailerAt}
+use Rattle.chain.specs.Trailer.{endOf, misfits, trailerAt}
 
--- 21: a used length past the list, or no whole trailer at the place; none is no place
+-- 21: a used length past the list, or no whole trailer at the place
 unfoldable pub check21 : ℕ → ℕ → ℕ → Outcome
-check21 bytes used at = refuse (ltb bytes used || ltb used (at + 16) || eqb at none) 21 0
+check21 bytes used at = refuse (ltb bytes used || ltb used (at + 16)) 21 0
 
 -- 22: the table starts before the preceding trailer's end, or after its own trailer, or in a layout the reader knows does not end there
 unfoldable pub check22 : Layout → Trailer → ℕ → Outcome

@@ -1,7 +1,7 @@
 // Reading a table at its trailer's place, and at the last 16 bytes.
 ghost use mathlib.Core.Path.{_≡_};
 ghost use Rattle.chain.specs.declared.layout.Known.{Known};
-ghost use Rattle.chain.specs.Answers.{nothing, passed, readTable, readTrailer, readAnswer, lastAnswer};
+ghost use Rattle.chain.specs.Answers.{nothing, passed, readTable, readTrailer, readAt, readAnswer, lastAnswer};
 use crate::answers::Read;
 use crate::layout::Known;
 use crate::layout::Layout;
@@ -78,9 +78,9 @@ fn read_trailer(reader: Layout, file: &[u8], trailer: Trailer) -> Read
     }
 }
 
-// What is read at a place: 21 and 22 first. `at` is the place of the trailer's first byte, as `before` has it.
-pub fn read(reader: Layout, file: &[u8], used: usize, at: usize) -> Read
-    ensures { λ r. ⌜ r ≡ readAnswer reader (now (file .entry)) used at ⌝ }
+// What is read of the trailer at a place: 21 and 22 first.
+fn read_at(reader: Layout, file: &[u8], used: usize, at: usize) -> Read
+    ensures { λ r. ⌜ r ≡ readAt reader (now (file .entry)) used at ⌝ }
 {
     let found = check_trailer(reader, file, used, at);
     match found {
@@ -89,12 +89,22 @@ pub fn read(reader: Layout, file: &[u8], used: usize, at: usize) -> Read
     }
 }
 
-// What is read at the last 16 bytes; 21 where there are fewer.
+// What is read at a place: of the trailer whose first byte it is, as `before` has it. `NONE` means that there is none: 21.
+pub fn read(reader: Layout, file: &[u8], used: usize, at: usize) -> Read
+    ensures { λ r. ⌜ r ≡ readAnswer reader (now (file .entry)) used at ⌝ }
+{
+    if at == (NONE as usize) {
+        return nothing(21, 0);
+    }
+    read_at(reader, file, used, at)
+}
+
+// What is read of the trailer in the last 16 bytes, wherever it lies; 21 where there are fewer.
 pub fn last(reader: Layout, file: &[u8], used: usize) -> Read
     ensures { λ r. ⌜ r ≡ lastAnswer reader (now (file .entry)) used ⌝ }
 {
     if used < 16 {
         return nothing(21, 0);
     }
-    read(reader, file, used, used - 16)
+    read_at(reader, file, used, used - 16)
 }

@@ -63,18 +63,14 @@ fn misfits(layout: Known, trailer: Trailer, at: usize) -> bool
     }
 }
 
-// 21: a used length past the list, or no whole trailer at the place, or the place is none.
+// 21: a used length past the list, or no whole trailer at the place.
 fn check21(bytes: usize, used: usize, at: usize) -> Outcome
     ensures { λ r. ⌜ r ≡ check21 bytes used at ⌝ }
 {
     if used < 16 {
         return Outcome::Refused(21, 0);
     }
-    refuse(
-        (bytes < used) | (used - 16 < at) | (at == (NONE as usize)),
-        21,
-        0,
-    )
+    refuse((bytes < used) | (used - 16 < at), 21, 0)
 }
 
 // 22: a place that breaks the rules.

@@ -94,7 +94,8 @@ fn numbers_at(file: &[u8], place: usize, n: usize, labelled: bool) -> List {
     list
 }
 
-// The key of 21 or 22, where so many bytes are lent: its number, below the keys of all tables. That the fields fit is told by division.
+// The key of 21 or 22, where so many bytes are lent: its number, below the keys of all tables. No list here is so long that a whole trailer
+// could lie at `NONE`. That the fields fit is told by division.
 fn place_key(two: bool, file: &Book, room: usize, used: usize, place: usize) -> u32 {
     let trailer = numbers_at(file, place, 4, false);
     let here = (place % 4294967296) as u32;
@@ -103,7 +104,7 @@ fn place_key(two: bool, file: &Book, room: usize, used: usize, place: usize) -> 
     let before = trailer.get(1);
     let layout = trailer.get(2);
     let count = trailer.get(3);
-    let whole = (place == i) & (here != NONE) & (i + 16 <= used) & (used <= room);
+    let whole = (place == i) & (i + 16 <= used) & (used <= room);
     let gap = less(here, start);
     let seven = (layout == 1) & ((gap / 28 != count) | (gap % 28 != 0));
     let eight = two & (layout == 2) & ((gap / 32 != count) | (gap % 32 != 0));

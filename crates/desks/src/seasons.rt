@@ -1,4 +1,5 @@
-// Season reports: runs added and reports joined, against sums over jobs that are asked one by one; reports that were made up; means and texts.
+// Season reports: runs added and reports joined, against sums over jobs that are asked one by one; reports that were made up; means, least and
+// greatest, and texts.
 use crate::tally::ADD;
 use crate::tally::EMPTY;
 use crate::tally::JOIN;
@@ -37,6 +38,7 @@ use drawn::list::wide;
 use drawn::tally::Tally;
 use drawn::tally::add;
 use drawn::tally::note;
+use season::Extremes;
 use season::Mean;
 use season::Report;
 use season::Reported;
@@ -266,17 +268,28 @@ fn with_run(t: &mut Tally, report: Report, seed: u32, tasks: &[u32]) -> Report {
     try_add(t, report, whole, seed)
 }
 
-// The mean of a row: there is one where a job finished, and from it the sum is had again.
+// Whether least and greatest of a row are given where a job finished, and there alone.
+fn right_extremes(row: Row) -> bool {
+    match season::extremes(row) {
+        Extremes::None => row.finished == 0,
+        Extremes::Of(low, high) => (row.finished != 0)
+            & (low == row.least)
+            & (high == row.greatest),
+    }
+}
+
+// The mean of a row: there is one where a job finished, and from it the sum is had again. Least and greatest are looked at with it.
 fn try_mean(t: &mut Tally, row: Row) {
     let due = if row.finished == 0 { 0 } else { 1 };
+    let both = right_extremes(row);
     let Mean::Of(quotient, remainder, n) = season::mean(row) else {
-        note(t, MEAN, 0, due, 0);
+        note(t, MEAN, 0, due, told(0, true, true, both));
         return;
     };
     let whole = wide(quotient) * wide(n);
     let right = (remainder <= row.sum) & (whole == wide(less(row.sum, remainder)));
     let below = (remainder < n) & (n == row.finished);
-    note(t, MEAN, n, due, told(1, right, below, true));
+    note(t, MEAN, n, due, told(1, right, below, both));
 }
 
 // What a report is shown in.

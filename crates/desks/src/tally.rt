@@ -50,7 +50,7 @@ pub(crate) fn report(t: &Tally) {
     line(t, b"  index built:", BUILD, 1);
     line(
         t,
-        b"  range with no tick, with some, other than a fresh count; entries that a fresh count reads, that the index reads:",
+        b"  range with no tick, with some, other than a fresh count; entries that the definition of a fresh count looks at, of the index's answer:",
         BETWEEN,
         5,
     );

@@ -323,7 +323,7 @@ module _ (g : Given) (schedule index : List ℕ) where
 
 -- ## What it costs
 
--- For an end at most 63 entries are read, beside one row's number ..
+-- For an end the definition looks at 63 entries at most, beside one row's number ..
 pub few-read : (schedule : List ℕ) (t : ℕ) → length (since schedule t) ≤ 63
 unfolding since
 few-read schedule t = omega (arith, length-part schedule (t / 64 * 64) t)

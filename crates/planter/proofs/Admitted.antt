@@ -6,7 +6,7 @@ use mathlib.Core.List.{List, [], _∷_}
 use mathlib.Core.Path.{ap, refl, subst, sym, _∙_, _≡_}
 use native.Mathlib.Omega.{arith}
 use lib.ListN.{getD, length, length-replicate, replicate}
-use borrow.Author.Tests.{le-ltb, lt-ltb}
+use borrow.Author.Tests.{le-ltb}
 use Rattle.bits.proofs.Below.{getD-list}
 use Rattle.tables.specs.declared.outcome.Outcome.{Outcome}
 use Rattle.tables.specs.declared.outcome.Outcome.the-variants as outcomes
@@ -15,7 +15,6 @@ use Rattle.tables.specs.Said.{done, outcomeSaid, refused}
 use Rattle.tables.specs.Tables.{arrival, jobCount, lists, taskOf}
 use Rattle.tables.proofs.Laws.Refusals.{unless-done, unless-refused}
 use Rattle.tables.proofs.Laws.Said.{outcome-said}
-use Rattle.zsrm.specs.declared.answers.Verdict.the-variants.{Refused}
 use Rattle.zsrm.specs.declared.mode.Mode.{Mode}
 use Rattle.zsrm.specs.declared.record.Record.{Record}
 use Rattle.zsrm.specs.declared.tie.Tie.the-variants.{Stay}
@@ -27,7 +26,7 @@ use Rattle.zsrm.proofs.Laws.Answers.{accepted, run-given}
 use Rattle.zsrm.proofs.Promise.{run-consistent, run-outcome-checked}
 use Rattle.planter.specs.declared.admission.Admission.{Admission}
 use Rattle.planter.specs.declared.admission.Change.{Change}
-use Rattle.planter.specs.Admission.{admission, admitAnswer, appended, blankChange, changeAt, refusedAdmission, verdictIn}
+use Rattle.planter.specs.Admission.{admission, admitAnswer, appended, changeAt, refusedAdmission, verdictIn}
 use Rattle.planter.specs.Table.{downForce, planter, table}
 use Rattle.planter.proofs.Changes.{longer-few}
 use Rattle.planter.proofs.Promise.{run-meets}
@@ -52,8 +51,8 @@ module _ (mode : Mode) (jobs : List ℕ) (horizon : ℕ) (lent : List ℕ) (whol
 
 -- the library's answer for a job not in the list
 unlisted : (mode : Mode) (jobs : List ℕ) (horizon j : ℕ) → checkSchedule (lists table jobs) horizon horizon ≡ outcomes.Done → jobCount jobs ≤ j
-    → verdictIn mode jobs horizon j ≡ Refused 13 0
-unfolding verdictIn verdictAnswer checkVerdict check11 check13 refuse before unless
+    → verdictSaid (verdictIn mode jobs horizon j) ≡ refused 13 0
+unfolding verdictSaid verdictIn verdictAnswer checkVerdict check11 check13 refuse before unless
 unlisted mode jobs horizon j ok past =
     let lent = replicate {A = ℕ} horizon 0 in
     let whole = length-replicate {A = ℕ} horizon 0 in
@@ -115,52 +114,58 @@ module _ (mode : Mode) (jobs : List ℕ) (horizon task arrives runs : ℕ) where
     unfolding appended
     counted = one-more table jobs (task ∷ arrives ∷ runs ∷ []) refl
 
-    -- one job more than the list has is counted
+    -- one job more than the list has is counted ..
     pub counts : admitAnswer mode jobs horizon task arrives runs .count ≡ jobCount jobs + 1
     unfolding admitAnswer admission
     counts = ap (λ (a : Admission). a .count) (unless-done refusedAdmission _ (checkSchedule (lists table longer) horizon horizon) longer-runs) ∙ counted
 
-    change-is : (j : ℕ) (d : Change) → j < 64 → getD (admitAnswer mode jobs horizon task arrives runs .changes) j d ≡ changeAt mode jobs longer horizon j
-    unfolding admitAnswer admission
-    change-is j d l =
-        ap (λ (a : Admission). getD (a .changes) j d) (unless-done refusedAdmission _ (checkSchedule (lists table longer) horizon horizon) longer-runs)
-        ∙ getD-list 64 (changeAt mode jobs longer horizon) j d l
+    -- .. which are at most 64.
+    pub counts-few : jobCount jobs + 1 ≤ 64
+    counts-few = omega (arith, counted, longer-few mode jobs longer horizon longer-runs)
 
-    -- Of each job that is counted ..
-    module _ (j : ℕ) (d : Change) (l : j < jobCount jobs + 1) where
-      listed : getD (admitAnswer mode jobs horizon task arrives runs .changes) j d ≡ record { before = verdictIn mode jobs horizon j; after = verdictIn mode longer horizon j }
-      unfolding changeAt
-      listed =
-          change-is j d (omega (arith, counted, longer-few mode jobs longer horizon longer-runs)) ∙ rw (lt-ltb j (jobCount longer) (omega (arith, counted)))
+    -- Of each job number below 64, counted or not ..
+    module _ (j : ℕ) (d : Change) (l : j < 64) where
+      change-is : getD (admitAnswer mode jobs horizon task arrives runs .changes) j d ≡ record { before = verdictIn mode jobs horizon j; after = verdictIn mode longer horizon j }
+      unfolding admitAnswer admission changeAt
+      change-is =
+          ap (λ (a : Admission). getD (a .changes) j d) (unless-done refusedAdmission _ (checkSchedule (lists table longer) horizon horizon) longer-runs)
+          ∙ getD-list 64 (changeAt mode jobs longer horizon) j d l
 
       -- .. it gives the verdict that `verdict` answers at the record of a run of the list ..
       pub before-is : (lent : List ℕ) → length lent ≡ horizon
           → getD (admitAnswer mode jobs horizon task arrives runs .changes) j d .before ≡ verdictAnswer (planter mode jobs) (runAnswer (planter mode jobs) Stay horizon lent .«record») j
-      before-is lent whole = ap (λ (c : Change). c .before) listed ∙ verdict-is mode jobs horizon lent whole jobs-run j
+      before-is lent whole = ap (λ (c : Change). c .before) change-is ∙ verdict-is mode jobs horizon lent whole jobs-run j
 
       -- .. and at the record of a run of the longer list.
       pub after-is : (lent : List ℕ) → length lent ≡ horizon
           → getD (admitAnswer mode jobs horizon task arrives runs .changes) j d .after
           ≡ verdictAnswer (planter mode (appended jobs task arrives runs)) (runAnswer (planter mode (appended jobs task arrives runs)) Stay horizon lent .«record») j
-      after-is lent whole = ap (λ (c : Change). c .after) listed ∙ verdict-is mode longer horizon lent whole longer-runs j
+      after-is lent whole = ap (λ (c : Change). c .after) change-is ∙ verdict-is mode longer horizon lent whole longer-runs j
 
-    -- The offered job is not in the list, so before it there is no verdict.
-    pub offered-before : (d : Change) → getD (admitAnswer mode jobs horizon task arrives runs .changes) (jobCount jobs) d .before ≡ Refused 13 0
-    offered-before d = ap (λ (c : Change). c .before) (listed (jobCount jobs) d (omega arith)) ∙ unlisted mode jobs horizon (jobCount jobs) jobs-run (omega arith)
+      -- a job that is not in the list has no verdict without the offered job
+      unlisted-before : jobCount jobs ≤ j → verdictSaid (getD (admitAnswer mode jobs horizon task arrives runs .changes) j d .before) ≡ refused 13 0
+      unlisted-before past = ap (λ (c : Change). verdictSaid (c .before)) change-is ∙ unlisted mode jobs horizon j jobs-run past
 
-    -- From the count on both are blank.
-    pub past-blank : (j : ℕ) (d : Change) → jobCount jobs + 1 ≤ j → j < 64 → getD (admitAnswer mode jobs horizon task arrives runs .changes) j d ≡ blankChange
-    unfolding changeAt
-    past-blank j d past l = change-is j d l ∙ rw (le-ltb j (jobCount longer) (omega (arith, counted)))
+      -- So from the count on both are refused with 13 and place 0, that the list has no such job ..
+      pub past-thirteen : jobCount jobs + 1 ≤ j
+          → (verdictSaid (getD (admitAnswer mode jobs horizon task arrives runs .changes) j d .before) ≡ refused 13 0)
+          × (verdictSaid (getD (admitAnswer mode jobs horizon task arrives runs .changes) j d .after) ≡ refused 13 0)
+      past-thirteen past =
+          (unlisted-before (omega arith), ap (λ (c : Change). verdictSaid (c .after)) change-is ∙ unlisted mode longer horizon j longer-runs (omega (arith, counted)))
+
+    -- .. and so is the offered job's verdict without it.
+    pub offered-before : (d : Change) → verdictSaid (getD (admitAnswer mode jobs horizon task arrives runs .changes) (jobCount jobs) d .before) ≡ refused 13 0
+    offered-before d = unlisted-before (jobCount jobs) d (omega (arith, counts-few)) (omega arith)
 
     -- A down-force job whose deadline lies within the horizon is met without the offered job ..
     pub down-force-before : (j : ℕ) (d : Change) → j < jobCount jobs → taskOf jobs j ≡ downForce → arrival jobs j + 20 ≤ horizon
         → verdictSaid (getD (admitAnswer mode jobs horizon task arrives runs .changes) j d .before) ≡ met
-    down-force-before j d l its within = ap (λ (c : Change). verdictSaid (c .before)) (listed j d (omega arith)) ∙ down-force-met mode jobs horizon j jobs-run l its within
+    down-force-before j d l its within =
+        ap (λ (c : Change). verdictSaid (c .before)) (change-is j d (omega (arith, counts-few))) ∙ down-force-met mode jobs horizon j jobs-run l its within
 
     -- .. and with it; so is the offered job, if it is one.
     pub down-force-after : (j : ℕ) (d : Change) → j < jobCount (appended jobs task arrives runs) → taskOf (appended jobs task arrives runs) j ≡ downForce
         → arrival (appended jobs task arrives runs) j + 20 ≤ horizon
         → verdictSaid (getD (admitAnswer mode jobs horizon task arrives runs .changes) j d .after) ≡ met
     down-force-after j d l its within =
-        ap (λ (c : Change). verdictSaid (c .after)) (listed j d (omega (arith, counted))) ∙ down-force-met mode longer horizon j longer-runs l its within
+        ap (λ (c : Change). verdictSaid (c .after)) (change-is j d (omega (arith, counts-few, counted))) ∙ down-force-met mode longer horizon j longer-runs l its within

@@ -1,10 +1,8 @@
 -- The changes, as the code gathers them from all verdicts on either list.
 use Prim.Native.Nat.{_<_, ℕ, _≤_}
-use mathlib.Core.Bool.{cond}
 use mathlib.Core.List.{List}
 use mathlib.Core.Path.{ap, ap₂, sym, _∙_, _≡_}
 use native.Mathlib.Omega.{arith}
-use lib.Dec.{ltb}
 use Rattle.bits.specs.Below.{listFrom}
 use Rattle.bits.proofs.Arrays.{Written, written-all}
 use Rattle.bits.proofs.Below.{list-same}
@@ -21,7 +19,7 @@ use Rattle.zsrm.specs.Answers.{checkSchedule, verdictsAnswer}
 use Rattle.zsrm.specs.Run.{runRecord}
 use Rattle.zsrm.proofs.Laws.Answers.{accepted}
 use Rattle.zsrm.proofs.Promise.{verdicts-each}
-use Rattle.planter.specs.Admission.{admission, blankChange, changeAt, refusedAdmission, verdictIn}
+use Rattle.planter.specs.Admission.{admission, changeAt, refusedAdmission, verdictIn}
 use Rattle.planter.specs.Code.{changeOf, judgedAt}
 use Rattle.planter.specs.Table.{planter, table}
 use Rattle.planter.specs.declared.admission.Admission.{Admission}
@@ -48,13 +46,13 @@ module _ (mode : Mode) (jobs longer : List ℕ) (horizon : ℕ) where
     pub admission-made : (count : ℕ) (old new : Verdicts) (r s : Record) (made : Admission) → count ≡ jobCount longer
         → old ≡ verdictsAnswer (planter mode jobs) r → r ≡ runRecord (planter mode jobs) Stay horizon
         → new ≡ verdictsAnswer (planter mode longer) s → s ≡ runRecord (planter mode longer) Stay horizon
-        → made ≡ record { outcome = Done; count = count; changes = listFrom 0 64 (changeOf count old new) }
+        → made ≡ record { outcome = Done; count = count; changes = listFrom 0 64 (changeOf old new) }
         → made ≡ admission mode jobs longer horizon
     unfolding admission changeOf changeAt
     admission-made count old new r s made c o ro n sn e =
         e ∙ ap₂ (λ (k : ℕ) (cs : List Change). record { outcome = Done; count = k; changes = cs }) c
-        (list-same 64 (changeOf count old new) (changeAt mode jobs longer horizon)
-        (λ k l. rw c (ap₂ (λ (x y : Verdict). cond (ltb k (jobCount longer)) (record { before = x; after = y }) blankChange) (judged-in jobs old r o ro k l) (judged-in longer new s n sn k l))))
+        (list-same 64 (changeOf old new) (changeAt mode jobs longer horizon)
+        (λ k l. ap₂ (λ (x y : Verdict). record { before = x; after = y }) (judged-in jobs old r o ro k l) (judged-in longer new s n sn k l)))
         ∙ sym (unless-done refusedAdmission _ (checkSchedule (lists table longer) horizon horizon) ok)
 
   -- the longer list is refused

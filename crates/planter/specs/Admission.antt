@@ -1,9 +1,7 @@
 -- Document 02, Seven, a day's admission: offered one more job, whether the list with that job appended is accepted, and how every verdict at
 -- the horizon changes.
 use Prim.Native.Nat.{ℕ}
-use mathlib.Core.Bool.{cond}
 use mathlib.Core.List.{List, [], _∷_, _++_}
-use lib.Dec.{ltb}
 use lib.ListN.{replicate}
 use Rattle.bits.specs.Below.{listFrom}
 use Rattle.tables.specs.declared.outcome.Outcome.the-variants as outcomes
@@ -27,13 +25,13 @@ appended jobs task arrival execution = jobs ++ (task ∷ arrival ∷ execution �
 unfoldable pub verdictIn : Mode → List ℕ → ℕ → ℕ → Verdict
 verdictIn mode jobs horizon j = verdictAnswer (planter mode jobs) (runRecord (planter mode jobs) Stay horizon) j
 
+-- Of each job number, in the lists or not, what `verdict` answers without and with the offered job: 13 where the list has no such job.
+unfoldable pub changeAt : Mode → List ℕ → List ℕ → ℕ → ℕ → Change
+changeAt mode jobs longer horizon j = record { before = verdictIn mode jobs horizon j; after = verdictIn mode longer horizon j }
+
+-- Every number of a refused answer is 0.
 abbrev pub blankChange : Change
 blankChange = record { before = verdicts.Refused 0 0; after = verdicts.Refused 0 0 }
-
--- Of each job of the longer list the verdict without and with the offered job; past that list's end both are blank.
-unfoldable pub changeAt : Mode → List ℕ → List ℕ → ℕ → ℕ → Change
-changeAt mode jobs longer horizon j =
-    cond (ltb j (jobCount longer)) (record { before = verdictIn mode jobs horizon j; after = verdictIn mode longer horizon j }) blankChange
 
 -- A refused admission counts no job, and every change is blank.
 unfoldable pub refusedAdmission : ℕ → ℕ → Admission

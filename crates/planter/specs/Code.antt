@@ -1,8 +1,6 @@
 -- How the code makes an admission. No contract that callers see cites it.
 use Prim.Native.Nat.{ℕ, _≤_}
-use mathlib.Core.Bool.{cond}
 use mathlib.Core.Path.{_≡_}
-use lib.Dec.{ltb}
 use lib.ListN.{getD}
 use Rattle.zsrm.specs.declared.answers.Judged.{Judged}
 use Rattle.zsrm.specs.declared.answers.Verdict.the-variants.{Refused}
@@ -12,15 +10,14 @@ use Rattle.zsrm.specs.declared.tie.Tie.the-variants.{Stay}
 use Rattle.zsrm.specs.Given.{Given}
 use Rattle.zsrm.specs.Run.{runRecord}
 use Rattle.planter.specs.declared.admission.Change.{Change}
-use Rattle.planter.specs.Admission.{blankChange}
 
 -- One of all verdicts, as an array's element is read.
 abbrev pub judgedAt : Verdicts → ℕ → Judged
 judgedAt all j = getD (all .of) j (record { verdict = Refused 0 0 })
 
 -- The change of job j, from all verdicts on either list.
-unfoldable pub changeOf : ℕ → Verdicts → Verdicts → ℕ → Change
-changeOf count old new j = cond (ltb j count) (record { before = judgedAt old j .verdict; after = judgedAt new j .verdict }) blankChange
+unfoldable pub changeOf : Verdicts → Verdicts → ℕ → Change
+changeOf old new j = record { before = judgedAt old j .verdict; after = judgedAt new j .verdict }
 
 -- A record on our run's way to the horizon: the run's own at its tick.
 pub record OnTheWay (g : Given) (horizon : ℕ) (r : Record) : Type 0 where

@@ -1,6 +1,5 @@
 // A day's admission: offered one more job, whether the list with that job appended is accepted, and how every verdict at the horizon
 // changes. No schedule is kept: either list's run goes on from its fresh record 64 ticks at a time.
-ghost use mathlib.Core.Bool.{cond};
 ghost use mathlib.Core.Path.{_≡_};
 ghost use Prim.Native.Nat.{_+_, _<_, _≤_};
 ghost use lib.ListN.{length, take};
@@ -11,7 +10,7 @@ ghost use Rattle.zsrm.specs.declared.tie.Tie.{Tie};
 ghost use Rattle.zsrm.specs.Answers.{checkSchedule};
 ghost use Rattle.zsrm.specs.Run.{runRecord};
 ghost use Rattle.planter.specs.Table.{planter, table};
-ghost use Rattle.planter.specs.Admission.{admission, admitAnswer, appended, blankChange, refusedAdmission};
+ghost use Rattle.planter.specs.Admission.{admission, admitAnswer, appended, refusedAdmission};
 ghost use Rattle.planter.specs.Code.{OnTheWay, changeOf};
 use crate::calls::fresh;
 use crate::calls::go_on;
@@ -33,7 +32,8 @@ pub struct Change {
     pub after: Verdict,
 }
 
-// The answer to an offered job: how many jobs the longer list has, and the change of each by its number.
+// The answer to an offered job: how many jobs the longer list has, and the change of each by its number. From that count on both verdicts
+// are refused with 13, as `verdict` refuses a job that is not in the list; where the admission is refused, every number here is 0.
 pub struct Admission {
     pub outcome: Outcome,
     pub count: u32,
@@ -97,23 +97,9 @@ fn run_to(mode: Mode, jobs: &[u32], horizon: u32) -> Record
     rec
 }
 
-// The change of one job, by its verdicts; blank past the longer list's end.
-fn change_of(listed: bool, before: Verdict, after: Verdict) -> Change
-    ensures { λ r. ⌜ r ≡ cond listed (record { before = before; after = after }) blankChange ⌝ }
-{
-    if listed {
-        Change { before, after }
-    } else {
-        Change {
-            before: Verdict::Refused(0, 0),
-            after: Verdict::Refused(0, 0),
-        }
-    }
-}
-
-// The changes of the jobs below the count.
+// The change of every job number, from all verdicts on either list.
 fn changed(count: u32, old: Verdicts, new: Verdicts) -> Admission
-    ensures { λ r. ⌜ r ≡ record { outcome = Outcome.Done; count = count; changes = listFrom 0 64 (changeOf count old new) } ⌝ }
+    ensures { λ r. ⌜ r ≡ record { outcome = Outcome.Done; count = count; changes = listFrom 0 64 (changeOf old new) } ⌝ }
 {
     let mut out = refused(0, 0);
     let mut j: usize = 0;
@@ -122,7 +108,7 @@ fn changed(count: u32, old: Verdicts, new: Verdicts) -> Admission
         let with = new.of[j];
         let before = without.verdict;
         let after = with.verdict;
-        out.changes[j] = change_of((j as u32) < count, before, after);
+        out.changes[j] = Change { before, after };
         j += 1;
     }
     let changes = out.changes;

@@ -1,5 +1,6 @@
 -- A season of three runs in two reports, joined, and what is shown of them: by computation. The table is document 01's, and so are the runs:
--- its traced cases 1, 3 and 5. Then a count that would pass 4,294,967,295, another number of tasks, and a least without a finished job.
+-- its traced cases 1, 3 and 5. Then a count that would pass 4,294,967,295, another number of tasks, a least without a finished job, and
+-- a least of 0 beside none.
 use Prim.Native.Nat.{ℕ}
 use mathlib.Core.List.{List, [], _∷_, _++_}
 use mathlib.Core.Path.{refl, _≡_}
@@ -7,6 +8,7 @@ use lib.ListN.{replicate}
 use Rattle.bits.specs.Below.{every, greatest, least, listFrom, some}
 use Rattle.tables.specs.declared.outcome.Outcome.the-variants.{Done, Refused}
 use Rattle.tables.specs.Refusals.{ascending, before, check2, check3, check4, check5, check6, check7, check8, checkJobs, checkLists, checkTasks, outside, preceding, refuse, unless}
+use Rattle.tables.specs.Said.{done, outcomeSaid}
 use Rattle.tables.specs.Tables.{arrival, criticality, deadline, deadlineInstant, execution, jobCount, jobCriticality, jobNominal, jobPriority, nominal, offset, overload, period, priority, taskCount, taskOf, zeroSlackInstant}
 use Rattle.zsrm.specs.declared.mode.Mode.{Mode}
 use Rattle.zsrm.specs.declared.mode.Mode.the-variants.{S, SE}
@@ -19,6 +21,7 @@ use Rattle.zsrm.specs.Verdict.{verdict}
 use Rattle.decimal.specs.Decimal.{decimal, digits, size}
 use Rattle.season.specs.declared.report.Report.{Report}
 use Rattle.season.specs.declared.report.Row.{Row}
+use Rattle.season.specs.Extremes.{extremesOf, extremesSaid}
 use Rattle.season.specs.Mean.{meanOf}
 use Rattle.season.specs.Own.{addAnswer, checkRun, jobRow, jobRowAt, ownReport, ownRow, ownUpTo}
 use Rattle.season.specs.Reports.{allFit, check18, emptyAnswer, emptyReport, joinAnswer, joined, joinedRow, reported, rowAt, rowBelow, rowsOf}
@@ -69,8 +72,8 @@ abbrev text-dashes : List ℕ
 text-dashes = (116 ∷ 97 ∷ 115 ∷ 107 ∷ 32 ∷ 48 ∷ 32 ∷ 49 ∷ 32 ∷ 49 ∷ 32 ∷ 48 ∷ 32 ∷ 48 ∷ 32 ∷ 52 ∷ 32 ∷ 52 ∷ 32 ∷ 52 ∷ 32 ∷ 48 ∷ 32 ∷ 49 ∷ 10 ∷ []) ++ (116 ∷ 97 ∷ 115 ∷ 107 ∷ 32 ∷ 49 ∷ 32 ∷ 48 ∷ 32 ∷ 48 ∷ 32 ∷ 48 ∷ 32 ∷ 48 ∷ 32 ∷ 45 ∷ 32 ∷ 45 ∷ 32 ∷ 45 ∷ 32 ∷ 45 ∷ 32 ∷ 45 ∷ 10 ∷ [])
 
 -- the three outcomes are done, and the texts are those
-pub season-done : (seasonAnswer tasks one .outcome ≡ Done) × (seasonAnswer tasks other .outcome ≡ Done) × (seasonAnswer tasks (merged one other) .outcome ≡ Done)
-unfolding some every least greatest listFrom taskCount period deadline nominal overload criticality priority offset jobCount taskOf arrival execution jobCriticality jobPriority jobNominal zeroSlackInstant deadlineInstant refuse before ascending outside check2 check3 check4 checkTasks check5 preceding check6 check7 check8 checkJobs checkLists check11 unless placeAt doneAt suspendedAt waitedAt standingAt arriving arrived opening freshPlace fresh soundAt soundPrevious consistent alive someJob moreCritical higherPriority pastZeroSlack suspended eligible candidate lowest keeps choice doneAfter over ends finishes suspendedAfter waits waitedAfter goesOn standingAfter placeAfter advanced replay entriesBy finalBy runRecord verdict joinRow fits rowAt rowBelow rowsOf joinedRow joined allFit check18 reported joinAnswer emptyReport emptyAnswer jobRow jobRowAt ownRow ownUpTo ownReport checkRun addAnswer andThen seasonAnswer meanOf
+pub season-done : (outcomeSaid (seasonAnswer tasks one .outcome) ≡ done) × (outcomeSaid (seasonAnswer tasks other .outcome) ≡ done) × (outcomeSaid (seasonAnswer tasks (merged one other) .outcome) ≡ done)
+unfolding outcomeSaid some every least greatest listFrom taskCount period deadline nominal overload criticality priority offset jobCount taskOf arrival execution jobCriticality jobPriority jobNominal zeroSlackInstant deadlineInstant refuse before ascending outside check2 check3 check4 checkTasks check5 preceding check6 check7 check8 checkJobs checkLists check11 unless placeAt doneAt suspendedAt waitedAt standingAt arriving arrived opening freshPlace fresh soundAt soundPrevious consistent alive someJob moreCritical higherPriority pastZeroSlack suspended eligible candidate lowest keeps choice doneAfter over ends finishes suspendedAfter waits waitedAfter goesOn standingAfter placeAfter advanced replay entriesBy finalBy runRecord verdict joinRow fits rowAt rowBelow rowsOf joinedRow joined allFit check18 reported joinAnswer emptyReport emptyAnswer jobRow jobRowAt ownRow ownUpTo ownReport checkRun addAnswer andThen seasonAnswer meanOf
 season-done = (refl, refl, refl)
 
 pub season-shown : (shown one ≡ text-one) × (shown other ≡ text-other) × (shown (merged one other) ≡ text-both) × (shown (merged other one) ≡ text-both)
@@ -107,3 +110,8 @@ stale = refl
 pub stale-neutral : joinAnswer (report 1 (row 0 0 0 0 0 0 7 7)) (emptyReport 1) ≡ record { outcome = Done; report = emptyReport 1 }
 unfolding every listFrom refuse unless joinRow fits rowAt rowBelow rowsOf joinedRow joined allFit check18 reported joinAnswer emptyReport
 stale-neutral = refl
+
+-- a job that finished as it arrived has 0 for both; without a finished job there are none
+pub extremes-apart : (extremesSaid (extremesOf (row 1 0 0 0 1 0 0 0)) ≡ 0 ∷ 0 ∷ []) × (extremesSaid (extremesOf (row 0 1 0 0 0 0 0 0)) ≡ 0 ∷ [])
+unfolding extremesOf extremesSaid
+extremes-apart = (refl, refl)

@@ -3,6 +3,7 @@ pub mod Rows
 pub mod Reports
 pub mod Own
 pub mod Mean
+pub mod Extremes
 pub mod Text
 pub mod Season
 pub mod Order

@@ -1,49 +1,73 @@
 -- The promises of a season's report, for every input. Read this file first.
 --
--- `emptyAnswer tasks`, `addAnswer report g run`, `joinAnswer a b` and `meanOf row` are the whole contracts of `Report::empty`, `add`, `join`
--- and `mean`; `showing report` is what `show` writes. A report may hold anything, and so may what it is joined with. `rowCount n` is min(n, 16):
--- that many rows of a report of n tasks are looked at, and `rowAt r k` is row k. `joinRow` adds the counts and sums of two rows, in numbers of
--- any size, and takes least and greatest among the sides with a finished job; `Held` says that no count and no sum of a row passes
--- 4,294,967,295. `ownReport l run` is a run's own report, `ownRow l run k n` its row of task k over its first n jobs: Readings says it by the
--- jobs' verdicts and standings. `Season` says how a report was made by these calls: `begun`, a run `added`, two `merged`; `runsOf` are its
--- runs and `seasonAnswer tasks` what its last call answers, or the first refusal on the way. `reportOver tasks runs` is one report over all
--- those runs, and `Fitting tasks runs` that table and runs are accepted and the totals fit. `Alike x y`: both answers are the same refusal, or
--- both are done with the same report. `List·Permᴰ xs ys`: ys is xs in another order.
-use Prim.Native.Nat.{ℕ, _+_, _*_, _/_, _%_, _<_, _≤_}
+-- `emptyAnswer tasks`, `addAnswer report g run`, `joinAnswer a b`, `meanOf row` and `extremesOf row` are the whole contracts of
+-- `Report::empty`, `add`, `join`, `mean` and `extremes`; `showing report` is what `show` writes. A report may hold anything, and so may
+-- what it is joined with. `rowCount n` is min(n, 16): that many rows of a report of n tasks are looked at, and `rowAt r k` is row k.
+-- `joinRow` adds the counts and sums of two rows, in numbers of any size, and takes least and greatest among the sides with a finished job;
+-- `Held` says that no count and no sum of a row passes 4,294,967,295. `ownReport l run` is a run's own report, `ownRow l run k n` its row
+-- of task k over its first n jobs. `Season` says how a report was made by these calls: `begun`, a run `added`, two `merged`; `runsOf` are
+-- its runs and `seasonAnswer tasks` what its last call answers, or the first refusal on the way. `reportOver tasks runs` is one report over
+-- all those runs, and `Fitting tasks runs` that table and runs are accepted and the totals fit. `Alike x y`: both answers are the same
+-- refusal, or both are done with the same report. `List·Permᴰ xs ys`: ys is xs in another order. What the numbers of a row are is said by
+-- the jobs, in specs/Jobs: `Counted tasks k runs row` has its counts and its sum, and `Response k runs v` says that v is the response of a
+-- finished job of task k in one of the runs. A job counts as met, late, ended or open exactly where its verdict is that, in numbers
+-- (`isMet-reads`, `isLate-reads`, `isEnded-reads` and `isOpen-reads` in zsrm's Readings).
+use Prim.Native.Nat.{ℕ, _+_, _*_, _-_, _/_, _%_, _<_, _≤_}
+use mathlib.Core.Bool.{Bool, cond, false, true}
 use mathlib.Core.List.{List, [], _∷_, _++_, List·Permᴰ, Permᴰ·refl}
 use mathlib.Core.Logic.{inl, inr, _↔_, _⊎_}
 use mathlib.Core.Path.{ap, refl, subst, sym, _∙_, _≡_}
 use native.Mathlib.Nat.{div-add-mod', mod-lt}
 use native.Mathlib.Omega.{arith}
+use lib.Dec.{ltb}
 use lib.ListN.{length}
-use borrow.Author.Tests.{le-ltb, lt-ltb}
+use borrow.Author.Tests.{le-ltb, lt-ltb, ltb-false, ltb-true}
 use Rattle.bits.proofs.Below.{getD-list}
 use Rattle.tables.specs.declared.outcome.Outcome.the-variants.{Done, Refused}
 use Rattle.tables.specs.Refusals.{before, checkTasks}
 use Rattle.tables.specs.Said.{done, outcomeSaid, refused}
-use Rattle.tables.specs.Tables.{Lists, jobCount, taskCount}
+use Rattle.tables.specs.Tables.{Lists, arrival, jobCount, taskCount}
 use Rattle.tables.proofs.Laws.Refusals.{before-first}
 use Rattle.tables.proofs.Laws.Said.{outcome-said}
 use Rattle.zsrm.specs.declared.record.Record.{Record}
+use Rattle.zsrm.specs.declared.record.Standing.{Standing}
+use Rattle.zsrm.specs.declared.record.Standing.the-variants.{NotArrived, Unfinished, Finished, Ended}
 use Rattle.zsrm.specs.declared.tie.Tie.{Tie}
 use Rattle.zsrm.specs.Answers.{runAnswer}
 use Rattle.zsrm.specs.Given.{Given}
+use Rattle.zsrm.specs.Said.{finishedAt, standingSaid}
 use Rattle.zsrm.proofs.Laws.Answers.{accepted, run-outcome}
 use Rattle.zsrm.proofs.Laws.Promises.{ran-consistent}
+use Rattle.zsrm.proofs.Laws.Said.{standing-said}
+use Rattle.zsrm.proofs.Readings.{apart}
 use Rattle.season.specs.declared.report.Report.{Report}
 use Rattle.season.specs.declared.report.Reported.{Reported}
 use Rattle.season.specs.declared.report.Row.{Row}
+use Rattle.season.specs.Extremes.{extremesOf, extremesSaid}
+use Rattle.season.specs.Jobs.{Counted, Response, isFinished, responseOf}
 use Rattle.season.specs.Mean.{meanOf, meanSaid}
 use Rattle.season.specs.Own.{addAnswer, checkRun, ownReport, ownRow, ownUpTo}
 use Rattle.season.specs.Reports.{check18, emptyAnswer, emptyReport, joinAnswer, joined, reported, rowAt, rowCount}
 use Rattle.season.specs.Rows.{Held, joinRow, noJobs}
-use Rattle.season.specs.Season.{Alike, Fitting, Run, Same, Season, addAll, andThen, begun, merged, reportOver, runsOf, seasonAnswer}
+use Rattle.season.specs.Season.{Alike, Fitting, Run, Same, Season, addAll, andThen, begun, merged, reportOver, runsOf, seasonAnswer, totalRow}
 use Rattle.season.specs.Show.{showing}
 use Rattle.season.proofs.Laws.Order.{Neat, add-same, answer-done, answer-refused, empty-left, empty-neat, empty-right, join-or-not, join-regroups, join-same, join-swaps, joined-neat, lines-same}
 use Rattle.season.proofs.Laws.Own.{add-done, run-accepted}
 use Rattle.season.proofs.Laws.Reports.{Joins, joined-past, joined-row, joins, reported-done, reported-refused}
 use Rattle.season.proofs.Laws.Rows.{held, holds}
-use Rattle.season.proofs.Laws.Season.{fitting-order, over-order, runs-added, season-fitting, season-made}
+use Rattle.season.proofs.Laws.Season.{each-accepted, fitting-few, fitting-order, over-order, over-row, runs-added, season-fitting, season-made}
+use Rattle.season.proofs.Readings.{finished-since, total-counted, total-greatest, total-least, total-within}
+use Rattle.season.specs.declared.report.Extremes.the-variants as extremes
+
+-- ## The words
+
+-- A job has finished exactly where its standing is that, with an instant, from which its response is counted.
+pub finished-exactly : (a : ℕ) (s : Standing) → isFinished s ≡ true ↔ ((f : ℕ) × (standingSaid s ≡ finishedAt f) × (responseOf a s ≡ f - a))
+unfolding standingSaid
+finished-exactly a NotArrived = (λ e. apart (cc), λ w. let e = w .1 in apart (cc))
+finished-exactly a Unfinished = (λ e. apart (cc), λ w. let e = w .1 in apart (cc))
+finished-exactly a (Finished f) = (λ e. (f, refl, refl), λ w. refl)
+finished-exactly a (Ended e) = (λ q. apart (cc), λ w. let q = w .1 in apart (cc))
 
 -- ## Joining two reports
 
@@ -253,6 +277,42 @@ module _ (tasks : List ℕ) where
   one-joined s t ok =
       any-order (addAll begun (runsOf s ++ runsOf t)) (merged s t) (rw (runs-added begun (runsOf s ++ runsOf t)) (Permᴰ·refl (runsOf s ++ runsOf t))) ok
 
+  -- ## What the numbers of a season are
+
+  -- row k of a season's report
+  abbrev pub seasonRow : Season → ℕ → Row
+  seasonRow s k = rowAt (seasonAnswer tasks s .report) k
+
+  module _ (s : Season) (ok : outcomeSaid (seasonAnswer tasks s .outcome) ≡ done) (k : ℕ) (below : k < taskCount tasks) where
+    fitting : Fitting tasks (runsOf s)
+    fitting = season-done-exactly s .0 ok
+
+    row-is : seasonRow s k ≡ totalRow tasks k (runsOf s)
+    row-is =
+        ap (λ (r : Report). rowAt r k) (season-is s ok) ∙ over-row tasks (fitting-few tasks (runsOf s) fitting) (runsOf s) k below
+
+    -- Of each task, the counts are the numbers of its jobs, in all runs, that the library's `verdict` calls met, late, ended and open, and that
+    -- have finished; and the sum is that of all their responses.
+    pub season-counts : Counted tasks k (runsOf s) (seasonRow s k)
+    season-counts = rw row-is (total-counted tasks k (runsOf s) (fitting .each))
+
+    -- Where there is a response, a job is counted as finished, and the response lies from the least to the greatest ..
+    pub season-within : (v : ℕ) → Response k (runsOf s) v → (0 < seasonRow s k .finished) × (seasonRow s k .least ≤ v) × (v ≤ seasonRow s k .greatest)
+    season-within v w = let reach = total-within tasks k (runsOf s) v w in rw row-is (ltb-true 0 _ (reach .some), reach .low, reach .high)
+
+    -- .. and where one is counted, each of the two is a response.
+    pub season-least : 0 < seasonRow s k .finished → Response k (runsOf s) (seasonRow s k .least)
+    season-least some = rw row-is (total-least tasks k (runsOf s) (rw row-is at (lt-ltb 0 (seasonRow s k .finished) some)))
+
+    pub season-greatest : 0 < seasonRow s k .finished → Response k (runsOf s) (seasonRow s k .greatest)
+    season-greatest some = rw row-is (total-greatest tasks k (runsOf s) (rw row-is at (lt-ltb 0 (seasonRow s k .finished) some)))
+
+    -- A response cuts nothing off: no job finishes before its arrival.
+    pub season-since : (v : ℕ) (w : Response k (runsOf s) v) → arrival (w .run .jobs) (w .job) ≤ w .instant
+    unfolding standingSaid
+    season-since v w =
+        finished-since tasks (w .run) (each-accepted tasks (w .its-run) (fitting .each)) (w .job) (w .instant) (w .listed) (standing-said _ (Finished (w .instant)) (w .its-standing))
+
 -- ## The mean
 
 -- There is none without a finished job. Else it is a quotient, a remainder and the count, of which the sum is quotient times count plus
@@ -270,3 +330,18 @@ pub mean-divides : (r : Row) → 0 < r .finished → Divided r (r .sum / r .fini
 unfolding meanOf meanSaid
 mean-divides r some =
     record { said = rw (lt-ltb 0 (r .finished) some); whole = div-add-mod' (r .sum) (r .finished); below = mod-lt (r .sum) some }
+
+-- ## Least and greatest
+
+-- There are none exactly where no job of the row finished; else they are the row's two numbers.
+pub extremes-none : (r : Row) → extremesSaid (extremesOf r) ≡ 0 ∷ [] ↔ r .finished ≡ 0
+unfolding extremesOf extremesSaid
+extremes-none r = (λ e. by-finished (ltb 0 (r .finished)) refl e, λ e. rw (le-ltb 0 (r .finished) (omega arith)))
+  where
+    by-finished : (b : Bool) → ltb 0 (r .finished) ≡ b → extremesSaid (cond b (extremes.Of (r .least) (r .greatest)) extremes.None) ≡ 0 ∷ [] → r .finished ≡ 0
+    by-finished true h e = apart (cc)
+    by-finished false h e = omega (arith, ltb-false 0 (r .finished) h)
+
+pub extremes-are : (r : Row) → 0 < r .finished → extremesSaid (extremesOf r) ≡ r .least ∷ r .greatest ∷ []
+unfolding extremesOf extremesSaid
+extremes-are r some = rw (lt-ltb 0 (r .finished) some)

@@ -1,66 +1,42 @@
--- A run's own row said by its jobs: how many jobs of the task are met, late, ended, open and finished; the sum of the responses; and that
--- least and greatest are the least and the greatest of them. Each is proved of `ownRow`, which joins the jobs one by one.
-use Prim.Native.Nat.{ℕ, zero, suc, _+_, _-_, _<_}
+-- A row said by its jobs: how many jobs of the task are met, late, ended, open and finished; the sum of the responses; and that least and
+-- greatest are the least and the greatest of them. Each is proved of `ownRow`, which joins the jobs of one run one by one, and then of
+-- `totalRow`, which joins the runs.
+use Prim.Native.Nat.{ℕ, zero, suc, _+_, _-_, _<_, _≤_}
 use mathlib.Core.Bool.{Bool, cond, false, true, _&&_}
+use mathlib.Core.List.{List, [], _∷_, List·Memᴰ, List·Memᴰ·head, List·Memᴰ·tail}
 use mathlib.Core.Logic.{inl, inr, _⊎_}
-use mathlib.Core.Path.{ap, refl, subst, sym, _∙_, _≡_}
+use mathlib.Core.Path.{ap, ap₂, refl, subst, sym, _∙_, _≡_}
 use native.Mathlib.Nat.{not-suc-le-zero}
 use native.Mathlib.Omega.{arith}
 use lib.Dec.{eqb}
 use borrow.Author.Tests.{eq-eqb, eqb-true, ltb-true}
 use Rattle.bits.specs.Below.{count}
-use Rattle.bits.proofs.Below.{last-or-below}
+use Rattle.bits.proofs.Below.{count-same, last-or-below}
 use Rattle.bits.proofs.Bools.{by-cond}
-use Rattle.tables.specs.Tables.{Lists, arrival, taskOf}
+use Rattle.tables.specs.declared.outcome.Outcome.the-variants.{Done}
+use Rattle.tables.specs.Refusals.{checkLists}
+use Rattle.tables.specs.Tables.{Lists, arrival, jobCount, lists, taskOf}
+use Rattle.tables.proofs.Laws.Accepted.{lists-few}
 use Rattle.zsrm.specs.declared.answers.Verdict.{Verdict}
 use Rattle.zsrm.specs.declared.record.Record.{Record}
 use Rattle.zsrm.specs.declared.record.Standing.{Standing}
 use Rattle.zsrm.specs.declared.record.Standing.the-variants.{NotArrived, Unfinished, Finished, Ended}
-use Rattle.zsrm.specs.Record.{standingAt}
-use Rattle.zsrm.specs.Verdict.{verdict}
+use Rattle.zsrm.specs.Answers.{verdictAnswer}
+use Rattle.zsrm.specs.Record.{consistent, standingAt}
+use Rattle.zsrm.specs.Said.{standingSaid}
+use Rattle.zsrm.specs.Verdict.{isEnded, isLate, isMet, isOpen, verdict}
+use Rattle.zsrm.proofs.Laws.Answers.{verdict-answered}
+use Rattle.zsrm.proofs.Laws.Consistent.{sound-at}
+use Rattle.zsrm.proofs.Laws.Said.{standing-said}
 use Rattle.season.specs.declared.report.Row.{Row}
+use Rattle.season.specs.Jobs.{Counted, Response, isFinished, isOfTask, responseOf, sumBelow, sumOver}
 use Rattle.season.specs.Own.{jobRow, jobRowAt, judgedRow, ownRow, withResponse}
 use Rattle.season.specs.Rows.{joinRow, noJobs, someFinished}
+use Rattle.season.specs.Season.{Accepted, AllAccepted, Run, givenOf, rowIn, totalRow}
+use Rattle.season.proofs.Laws.Own.{run-consistent, run-lists}
 use Rattle.season.proofs.Laws.Rows.{Reach, greatest-taken, least-taken, reach-left, reach-right}
+use Rattle.season.proofs.Laws.Season.{told-done}
 use Rattle.zsrm.specs.declared.answers.Verdict.the-variants as verdicts
-
--- the kinds of verdict, numbered
-abbrev pub kind : Verdict → ℕ
-kind (verdicts.Refused number place) = 0
-kind verdicts.Met = 1
-kind (verdicts.Late by isExact) = 2
-kind verdicts.Ended = 3
-kind verdicts.Open = 4
-
-abbrev pub isMet : Verdict → Bool
-isMet v = eqb (kind v) 1
-
-abbrev pub isLate : Verdict → Bool
-isLate v = eqb (kind v) 2
-
-abbrev pub isEnded : Verdict → Bool
-isEnded v = eqb (kind v) 3
-
-abbrev pub isOpen : Verdict → Bool
-isOpen v = eqb (kind v) 4
-
-abbrev pub isFinished : Standing → Bool
-isFinished NotArrived = false
-isFinished Unfinished = false
-isFinished (Finished f) = true
-isFinished (Ended e) = false
-
--- finishing instant minus arrival, 0 for a job that has not finished
-abbrev pub responseOf : ℕ → Standing → ℕ
-responseOf arrival NotArrived = 0
-responseOf arrival Unfinished = 0
-responseOf arrival (Finished f) = f - arrival
-responseOf arrival (Ended e) = 0
-
--- f 0 + f 1 + .., of n values
-unfoldable pub sumBelow : ℕ → (ℕ → ℕ) → ℕ
-sumBelow zero f = 0
-sumBelow (suc n) f = f n + sumBelow n f
 
 -- ## One job
 
@@ -169,7 +145,7 @@ module _ (l : Lists) (r : Record) (k : ℕ) where
           (λ _. reach-left (ownRow l r k n) (jobRowAt l r n) v (ih m t e)) (λ _. ih m t e)
 
   -- .. and each of the two is one of them
-  pub record Response (n v : ℕ) : Type 0 where
+  pub record OwnResponse (n v : ℕ) : Type 0 where
     pub job : ℕ
     pub instant : ℕ
     pub listed : job < n
@@ -177,7 +153,7 @@ module _ (l : Lists) (r : Record) (k : ℕ) where
     pub its-standing : standingAt r job ≡ Finished instant
     pub is : v ≡ instant - arrival (l .jobs) job
 
-  later : (n v : ℕ) → Response n v → Response (suc n) v
+  later : (n v : ℕ) → OwnResponse n v → OwnResponse (suc n) v
   later n v w = record { job = w .job; instant = w .instant; listed = omega (arith, w .listed); its-task = w .its-task; its-standing = w .its-standing; is = w .is }
 
   -- the one job has finished
@@ -201,28 +177,133 @@ module _ (l : Lists) (r : Record) (k : ℕ) where
   attained : (field : Row → ℕ)
       → ((a b : Row) → someFinished (joinRow a b) ≡ true → ((someFinished a ≡ true) × (field (joinRow a b) ≡ field a)) ⊎ ((someFinished b ≡ true) × (field (joinRow a b) ≡ field b)))
       → ((j : ℕ) → someFinished (jobRowAt l r j) ≡ true → (f : ℕ) × (standingAt r j ≡ Finished f) × (field (jobRowAt l r j) ≡ f - arrival (l .jobs) j))
-      → (n : ℕ) → someFinished (ownRow l r k n) ≡ true → Response n (field (ownRow l r k n))
+      → (n : ℕ) → someFinished (ownRow l r k n) ≡ true → OwnResponse n (field (ownRow l r k n))
   unfolding ownRow
   attained field found own zero h = let z : _≡_ {A = ℕ} 0 1 = cc in absurd (omega arith)
   attained field found own (suc n) h = go (ofTask n) refl (attained field found own n) h
     where
-      last : taskOf (l .jobs) n ≡ k → someFinished (jobRowAt l r n) ≡ true → (v : ℕ) → v ≡ field (jobRowAt l r n) → Response (suc n) v
+      last : taskOf (l .jobs) n ≡ k → someFinished (jobRowAt l r n) ≡ true → (v : ℕ) → v ≡ field (jobRowAt l r n) → OwnResponse (suc n) v
       last t s v e = let w = own n s in record { job = n; instant = w .0; listed = omega arith; its-task = t; its-standing = w .1; is = e ∙ w .2 }
 
-      go : (b : Bool) → ofTask n ≡ b → (someFinished (ownRow l r k n) ≡ true → Response n (field (ownRow l r k n)))
+      go : (b : Bool) → ofTask n ≡ b → (someFinished (ownRow l r k n) ≡ true → OwnResponse n (field (ownRow l r k n)))
           → someFinished (cond b (joinRow (ownRow l r k n) (jobRowAt l r n)) (ownRow l r k n)) ≡ true
-          → Response (suc n) (field (cond b (joinRow (ownRow l r k n) (jobRowAt l r n)) (ownRow l r k n)))
+          → OwnResponse (suc n) (field (cond b (joinRow (ownRow l r k n) (jobRowAt l r n)) (ownRow l r k n)))
       go false e ih h = later n _ (ih h)
       go true e ih h = pick (found (ownRow l r k n) (jobRowAt l r n) h)
         where
           pick : ((someFinished (ownRow l r k n) ≡ true) × (field (joinRow (ownRow l r k n) (jobRowAt l r n)) ≡ field (ownRow l r k n)))
               ⊎ ((someFinished (jobRowAt l r n) ≡ true) × (field (joinRow (ownRow l r k n) (jobRowAt l r n)) ≡ field (jobRowAt l r n)))
-              → Response (suc n) (field (joinRow (ownRow l r k n) (jobRowAt l r n)))
+              → OwnResponse (suc n) (field (joinRow (ownRow l r k n) (jobRowAt l r n)))
           pick (inl w) = rw (w .1) (later n _ (ih (w .0)))
           pick (inr w) = last (eqb-true (taskOf (l .jobs) n) k e) (w .0) _ (w .1)
 
-  pub least-is : (n : ℕ) → someFinished (ownRow l r k n) ≡ true → Response n (ownRow l r k n .least)
+  pub least-is : (n : ℕ) → someFinished (ownRow l r k n) ≡ true → OwnResponse n (ownRow l r k n .least)
   least-is = attained (λ x. x .least) least-taken (λ j h. let w = lone j h in (w .0, w .1, w .2))
 
-  pub greatest-is : (n : ℕ) → someFinished (ownRow l r k n) ≡ true → Response n (ownRow l r k n .greatest)
+  pub greatest-is : (n : ℕ) → someFinished (ownRow l r k n) ≡ true → OwnResponse n (ownRow l r k n .greatest)
   greatest-is = attained (λ x. x .greatest) greatest-taken (λ j h. let w = lone j h in (w .0, w .1, w .3))
+
+-- ## A run that is accepted
+
+module _ (tasks : List ℕ) (run : Run) (ok : Accepted tasks run) where
+  its-lists : checkLists (lists tasks (run .jobs)) ≡ Done
+  its-lists = run-lists (givenOf tasks run) (run .returned) (told-done _ .0 ok)
+
+  its-record : consistent (givenOf tasks run) (run .returned) ≡ true
+  its-record = run-consistent (givenOf tasks run) (run .returned) (told-done _ .0 ok)
+
+  -- the library answers the verdicts by which it is counted
+  as-answered : (k : ℕ) (so : Verdict → Bool)
+      → count (jobCount (run .jobs)) (λ j. isOfTask k run j && so (verdict (lists tasks (run .jobs)) (run .returned) j))
+      ≡ count (jobCount (run .jobs)) (λ j. isOfTask k run j && so (verdictAnswer (givenOf tasks run) (run .returned) j))
+  as-answered k so =
+      count-same _ _ (jobCount (run .jobs))
+      (λ j b. ap (λ (v : Verdict). isOfTask k run j && so v) (sym (verdict-answered (givenOf tasks run) its-lists (run .returned) its-record j b)))
+
+  -- no job finishes before its arrival
+  pub finished-since : (j f : ℕ) → j < jobCount (run .jobs) → standingAt (run .returned) j ≡ Finished f → arrival (run .jobs) j ≤ f
+  finished-since j f b q =
+      let complete = rw q at (sound-at (givenOf tasks run) (run .returned) its-record j (omega (arith, b, lists-few (lists tasks (run .jobs)) its-lists))) in
+      omega (arith, complete .after)
+
+-- ## The jobs of task k, in all runs
+
+module _ (tasks : List ℕ) (k : ℕ) where
+  -- a number that joining adds
+  sums : (field : Row → ℕ) (f : Run → ℕ) → field noJobs ≡ 0 → ((a b : Row) → field (joinRow a b) ≡ field a + field b)
+      → ((run : Run) → Accepted tasks run → field (rowIn tasks k run) ≡ f run)
+      → (runs : List Run) → AllAccepted tasks runs → field (totalRow tasks k runs) ≡ sumOver f runs
+  unfolding totalRow sumOver
+  sums field f none add own [] w = none
+  sums field f none add own (run ∷ runs) w =
+      add (rowIn tasks k run) (totalRow tasks k runs) ∙ ap₂ (λ (x y : ℕ). x + y) (own run (w .0)) (sums field f none add own runs (w .1))
+
+  pub total-counted : (runs : List Run) → AllAccepted tasks runs → Counted tasks k runs (totalRow tasks k runs)
+  unfolding joinRow
+  total-counted runs w =
+      record {
+        met = sums (λ x. x .met) _ refl (λ a b. refl) (λ run ok. met-counts _ _ k _ ∙ as-answered tasks run ok k isMet) runs w;
+        late = sums (λ x. x .late) _ refl (λ a b. refl) (λ run ok. late-counts _ _ k _ ∙ as-answered tasks run ok k isLate) runs w;
+        ended = sums (λ x. x .ended) _ refl (λ a b. refl) (λ run ok. ended-counts _ _ k _ ∙ as-answered tasks run ok k isEnded) runs w;
+        «open» = sums (λ x. x .«open») _ refl (λ a b. refl) (λ run ok. open-counts _ _ k _ ∙ as-answered tasks run ok k isOpen) runs w;
+        finished = sums (λ x. x .finished) _ refl (λ a b. refl) (λ run ok. finished-counts _ _ k _) runs w;
+        sum = sums (λ x. x .sum) _ refl (λ a b. refl) (λ run ok. sum-sums _ _ k _) runs w;
+      }
+
+  -- every response of the task lies from the least to the greatest ..
+  reach-total : {run : Run} {runs : List Run} → List·Memᴰ run runs → (v : ℕ) → Reach (rowIn tasks k run) v → Reach (totalRow tasks k runs) v
+  unfolding totalRow
+  reach-total (List·Memᴰ·head {x} {xs} e) v w = reach-left (rowIn tasks k x) (totalRow tasks k xs) v (subst (λ (run : Run). Reach (rowIn tasks k run) v) e w)
+  reach-total (List·Memᴰ·tail {x} {xs} m) v w = reach-right (rowIn tasks k x) (totalRow tasks k xs) v (reach-total m v w)
+
+  pub total-within : (runs : List Run) (v : ℕ) → Response k runs v → Reach (totalRow tasks k runs) v
+  unfolding standingSaid
+  total-within runs v w =
+      let stands = standing-said _ (Finished (w .instant)) (w .its-standing) in
+      let own = within (lists tasks (w .run .jobs)) (w .run .returned) k (jobCount (w .run .jobs)) (w .job) (w .instant) (w .listed) (w .its-task) stands in
+      reach-total (w .its-run) v (rw (w .is) own)
+
+  -- .. and each of the two is one of them
+  total-attained : (field : Row → ℕ)
+      → ((a b : Row) → someFinished (joinRow a b) ≡ true → ((someFinished a ≡ true) × (field (joinRow a b) ≡ field a)) ⊎ ((someFinished b ≡ true) × (field (joinRow a b) ≡ field b)))
+      → ((run : Run) → someFinished (rowIn tasks k run) ≡ true → OwnResponse (lists tasks (run .jobs)) (run .returned) k (jobCount (run .jobs)) (field (rowIn tasks k run)))
+      → (runs : List Run) → someFinished (totalRow tasks k runs) ≡ true → Response k runs (field (totalRow tasks k runs))
+  unfolding totalRow standingSaid
+  total-attained field found own [] h = let z : _≡_ {A = ℕ} 0 1 = cc in absurd (omega arith)
+  total-attained field found own (run ∷ runs) h = go (found (rowIn tasks k run) (totalRow tasks k runs) h) (total-attained field found own runs)
+    where
+      whole : ℕ
+      whole = field (joinRow (rowIn tasks k run) (totalRow tasks k runs))
+
+      go : ((someFinished (rowIn tasks k run) ≡ true) × (whole ≡ field (rowIn tasks k run))) ⊎ ((someFinished (totalRow tasks k runs) ≡ true) × (whole ≡ field (totalRow tasks k runs)))
+          → (someFinished (totalRow tasks k runs) ≡ true → Response k runs (field (totalRow tasks k runs))) → Response k (run ∷ runs) whole
+      go (inl w) ih =
+          let r = own run (w .0) in
+          record {
+            run = run;
+            its-run = List·Memᴰ·head refl;
+            job = r .job;
+            listed = r .listed;
+            its-task = r .its-task;
+            instant = r .instant;
+            its-standing = ap standingSaid (r .its-standing);
+            is = w .1 ∙ r .is;
+          }
+      go (inr w) ih =
+          let r = ih (w .0) in
+          record {
+            run = r .run;
+            its-run = List·Memᴰ·tail (r .its-run);
+            job = r .job;
+            listed = r .listed;
+            its-task = r .its-task;
+            instant = r .instant;
+            its-standing = r .its-standing;
+            is = w .1 ∙ r .is;
+          }
+
+  pub total-least : (runs : List Run) → someFinished (totalRow tasks k runs) ≡ true → Response k runs (totalRow tasks k runs .least)
+  total-least = total-attained (λ x. x .least) least-taken (λ run. least-is (lists tasks (run .jobs)) (run .returned) k (jobCount (run .jobs)))
+
+  pub total-greatest : (runs : List Run) → someFinished (totalRow tasks k runs) ≡ true → Response k runs (totalRow tasks k runs .greatest)
+  total-greatest = total-attained (λ x. x .greatest) greatest-taken (λ run. greatest-is (lists tasks (run .jobs)) (run .returned) k (jobCount (run .jobs)))

@@ -2,6 +2,8 @@ pub mod Rows
 pub mod Reports
 pub mod Own
 pub mod Mean
+pub mod Extremes
 pub mod Show
 pub mod Season
+pub mod Jobs
 pub mod Code

@@ -3,8 +3,8 @@ use Prim.Native.Nat.{ℕ, _<_}
 use mathlib.Core.Bool.{true}
 use mathlib.Core.List.{List, [], _∷_, _++_}
 use mathlib.Core.Path.{_≡_}
-use Rattle.tables.specs.declared.outcome.Outcome.the-variants.{Done}
 use Rattle.tables.specs.Refusals.{checkTasks, unless}
+use Rattle.tables.specs.Said.{done, outcomeSaid}
 use Rattle.tables.specs.Tables.{jobCount, lists, taskCount}
 use Rattle.zsrm.specs.declared.mode.Mode.{Mode}
 use Rattle.zsrm.specs.declared.record.Record.{Record}
@@ -44,7 +44,7 @@ andThen x next = unless (x .outcome) (λ number place. x) (next (x .report))
 
 -- Two answers that are alike: refused both with one number and place, or done both with one report.
 abbrev pub Alike : Reported → Reported → Type 0
-Alike x y = (x .outcome ≡ y .outcome) × (x .outcome ≡ Done → x .report ≡ y .report)
+Alike x y = (x .outcome ≡ y .outcome) × (outcomeSaid (x .outcome) ≡ done → x .report ≡ y .report)
 
 -- The same number of tasks, and the same rows of them: all that is looked at.
 pub record Same (a c : Report) : Type 0 where
@@ -75,7 +75,7 @@ module _ (tasks : List ℕ) where
 
   -- The run is accepted: 2 to 8 and 11.
   abbrev pub Accepted : Run → Type 0
-  Accepted run = checkRun (givenOf run) (run .returned) ≡ Done
+  Accepted run = outcomeSaid (checkRun (givenOf run) (run .returned)) ≡ done
 
   abbrev pub AllAccepted : List Run → Type 0
   AllAccepted [] = Unit {0}
@@ -83,6 +83,6 @@ module _ (tasks : List ℕ) where
 
   -- The table and every run are accepted, and no count and no sum over all runs passes 4,294,967,295.
   pub record Fitting (runs : List Run) : Type 0 where
-    pub table : checkTasks tasks ≡ Done
+    pub table : outcomeSaid (checkTasks tasks) ≡ done
     pub each : AllAccepted runs
     pub totals : (k : ℕ) → k < taskCount tasks → fits (totalRow k runs) ≡ true

@@ -8,7 +8,9 @@ mod report;
 mod rows;
 mod text;
 
+pub use means::extremes;
 pub use means::mean;
+pub use report::Extremes;
 pub use report::Mean;
 pub use report::Report;
 pub use report::Reported;

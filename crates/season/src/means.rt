@@ -1,8 +1,10 @@
-// The mean response as a whole quotient, a remainder and the count. `Mean` stands in report: a module may not have two names that differ only
-// in case.
+// The mean response as a whole quotient, a remainder and the count; and the least and the greatest. `Mean` and `Extremes` stand in report: a
+// module may not have two names that differ only in case.
 ghost use mathlib.Core.Path.{_≡_};
 ghost use Rattle.season.specs.Code.{Short};
+ghost use Rattle.season.specs.Extremes.{extremesOf};
 ghost use Rattle.season.specs.Mean.{meanOf};
+use crate::report::Extremes;
 use crate::report::Mean;
 use crate::report::Row;
 
@@ -23,4 +25,15 @@ pub fn mean(row: Row) -> Mean
     ensures { λ r. ⌜ r ≡ meanOf row ⌝ }
 {
     divided(row)
+}
+
+// The least and the greatest of the row's responses; there are none where no job finished.
+pub fn extremes(row: Row) -> Extremes
+    ensures { λ r. ⌜ r ≡ extremesOf row ⌝ }
+{
+    if 0 < row.finished {
+        Extremes::Of(row.least, row.greatest)
+    } else {
+        Extremes::None
+    }
 }

@@ -50,6 +50,12 @@ pub enum Mean {
     Of(u32, u32, u32),
 }
 
+// The least and the greatest response; there are none without a finished job.
+pub enum Extremes {
+    None,
+    Of(u32, u32),
+}
+
 impl Report {
     // The report of no runs of a table; refusals 2 to 4, the report then being all 0.
     pub fn empty(tasks: &[u32]) -> Reported

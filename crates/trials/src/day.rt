@@ -197,7 +197,7 @@ fn try_jobs(
     }
 }
 
-// The change of one job, by the simulator; of a refused admission every change is blank.
+// The change of one job, by the simulator: 13 where a list has no such job; 0 in a refused admission, of which both lists come empty.
 fn try_change(
     t: &mut Tally,
     tasks: &[u32],
@@ -212,7 +212,7 @@ fn try_change(
     let after = change.after;
     let n = jobs.len() / 3;
     let i = j as usize;
-    let last = if (i == n) & (i < longer.len() / 3) {
+    let none = if 0 < longer.len() {
         REFUSED + 13
     } else {
         REFUSED
@@ -220,12 +220,12 @@ fn try_change(
     let own = if i < n {
         verdict_of(without, tasks, jobs, j)
     } else {
-        last
+        none
     };
     let new = if i < longer.len() / 3 {
         verdict_of(with, tasks, longer, j)
     } else {
-        REFUSED
+        none
     };
     let right = (of_verdict(before) == own) & (of_verdict(after) == new);
     note(t, DAY, j, 0, told(0, true, true, right));

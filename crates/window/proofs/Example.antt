@@ -50,8 +50,9 @@ expected (gives mode list ranIn horizon task m k t) = t
 
 -- Where job 1 or job 5 takes 10 ticks, the seed that arrives 8 ticks later is missed: late in S, ended in SE. These are jobs 2 and 6, the
 -- second seed and the fifth: four in a row miss two, from job 2 on, and three in a row never do. With a c of 5 job 6 is met. At 32 jobs 6
--- and 7 are open. A list with no job passes. The refusals: K = 0, K over 64, m > K, this before a task that is not in the table; before both
--- 11, for a record in which jobs are ended in mode S, and 6, for a c over the overload time.
+-- and 7 are open: six in a row then miss one, and at 48 two, from the same job on. A list with no job passes. The refusals: K = 0, K over 64,
+-- m > K, this before a task that is not in the table; before both 11, for a record in which jobs are ended in mode S, and 6, for a c over
+-- the overload time.
 abbrev table : List Row
 table =
     gives SE (seeds 10) SE 48 0 1 7 (passing 0)
@@ -62,6 +63,8 @@ table =
     ∷ gives SE (seeds 10) SE 48 0 1 3 (passing 0)
     ∷ gives SE (seeds 5) SE 48 0 1 4 (passing 0)
     ∷ gives SE (seeds 10) SE 32 0 1 4 (passing 2)
+    ∷ gives SE (seeds 10) SE 32 0 0 6 (failing 0 1 2)
+    ∷ gives SE (seeds 10) SE 48 0 0 6 (failing 0 2 0)
     ∷ gives SE (seeds 10) SE 48 1 0 2 (passing 0)
     ∷ gives SE [] SE 48 0 0 1 (passing 0)
     ∷ gives SE (seeds 10) SE 48 0 0 0 (refused 19 0)

@@ -4,5 +4,6 @@ pub mod Jobs
 pub mod Windows
 pub mod Gathered
 pub mod Refusals
+pub mod Later
 pub mod Answers
 pub mod Said

@@ -4,13 +4,16 @@
 -- pair. `windowsSaid` says an answer in numbers, and Said gives each its name: `refused number place`, `passing n` and `failing job count n`,
 -- n being the number of open jobs. `checkJudge` is what is checked, in the order of the numbers; `Pair m k` is what 19 asks for: 0 < k,
 -- k ≤ 64 and m ≤ k. `activations jobs task` are the task's jobs by their numbers, `verdictsOn g r task` what the library's `verdict` answers
--- for them in the same order, `window vs k i` is k of these from the i-th on, `misses` how many are missed, `opens` how many are open.
+-- for them in the same order, `window vs k i` is k of these from the i-th on, `misses` how many are missed, `opens` how many are open
+-- (`isOpen-reads` in zsrm's Readings).
+-- `replay g r entries` is the record that entries lead to from r, `replayed g schedule` the one at a schedule's end, `claimAnswer` what the
+-- claim check answers: the library's.
 -- `smaller-window-fails` in Example shows that `smaller-window` is false without "the task has at least the larger k jobs".
 use Prim.Native.Nat.{ℕ, _+_, _<_, _≤_}
 use mathlib.Core.Bool.{Bool, false, true, _&&_}
-use mathlib.Core.List.{List}
+use mathlib.Core.List.{List, _++_}
 use mathlib.Core.Logic.{Iff·trans, inl, inr, _↔_, _⊎_, ⊎-elim}
-use mathlib.Core.Path.{ap, refl, sym, _∙_, _≡_}
+use mathlib.Core.Path.{ap, refl, subst, sym, _∙_, _≡_}
 use native.Mathlib.Omega.{arith}
 use lib.Dec.{eqb}
 use lib.ListN.{List·getD-map, getD, length, length-map}
@@ -24,44 +27,41 @@ use Rattle.tables.proofs.Laws.Said.{outcome-said}
 use Rattle.zsrm.specs.declared.answers.Verdict.{Verdict}
 use Rattle.zsrm.specs.declared.answers.Verdict.the-variants as verdicts
 use Rattle.zsrm.specs.declared.record.Record.{Record}
-use Rattle.zsrm.specs.Answers.{checkVerdict, verdictAnswer}
+use Rattle.zsrm.specs.Answers.{checkVerdict, claimAnswer, verdictAnswer}
 use Rattle.zsrm.specs.Given.{Given}
-use Rattle.zsrm.specs.Record.{consistent}
-use Rattle.zsrm.specs.Said.{ended, late, stillOpen, verdictSaid}
-use Rattle.zsrm.specs.Verdict.{missed}
+use Rattle.zsrm.specs.Record.{consistent, fresh}
+use Rattle.zsrm.specs.Run.{replay, replayed}
+use Rattle.zsrm.specs.Said.{claimSaid, ended, late, legal, verdictSaid}
+use Rattle.zsrm.specs.Verdict.{isOpen, missed}
+use Rattle.zsrm.proofs.Laws.Answers.{is-legal}
+use Rattle.zsrm.proofs.Laws.Run.{replay-append}
+use Rattle.zsrm.proofs.Laws.Said.{verdict-said}
+use Rattle.zsrm.proofs.Laws.Verdicts.{replayed-consistent}
 use Rattle.zsrm.proofs.Promise.{verdict-refused}
 use Rattle.window.specs.declared.windows.Windows.{Windows}
 use Rattle.window.specs.declared.windows.Windows.the-variants as windows
 use Rattle.window.specs.Answers.{judgeAnswer}
 use Rattle.window.specs.Refusals.{checkJudge}
 use Rattle.window.specs.Said.{failing, passing, windowsSaid}
-use Rattle.window.specs.Windows.{activations, isOpen, judged, misses, opens, verdictsOn, window}
+use Rattle.window.specs.Windows.{activations, judged, misses, opens, verdictsOn, window}
 use Rattle.window.proofs.Laws.Answers.{answer-done, answer-refused}
 use Rattle.window.proofs.Laws.Jobs.{own-all, own-each, own-many, own-order}
+use Rattle.window.proofs.Laws.Later.{Later, judged-final, judged-stays, verdicts-later}
 use Rattle.window.proofs.Laws.Refusals.{Pair, accepted-exactly, lists-only, lists-refuse, pair-refuses, record-refuses, task-refuses, verdict-refuses}
 use Rattle.window.proofs.Laws.Said.{windows-said}
 use Rattle.window.proofs.Laws.Windows.{fails-reads, holds-shorter, never-refused, passes-reads}
-use Rattle.zsrm.proofs.Readings.{apart}
+use Rattle.zsrm.proofs.Readings.{apart, missed-reads}
 
 -- ## The words
 
--- A job is missed exactly where its verdict is late or ended, so an open job is not ..
+-- A job is missed exactly where its verdict is late or ended, so an open job is not.
 pub missed-exactly : (v : Verdict) → missed v ≡ true ↔ ((n : ℕ) × (isExact : Bool) × (verdictSaid v ≡ late n isExact)) ⊎ (verdictSaid v ≡ ended)
 unfolding verdictSaid
-missed-exactly (verdicts.Refused number place) = (λ e. apart (cc), ⊎-elim (λ w. let e = w .2 in apart (cc)) (λ e. apart (cc)))
-missed-exactly verdicts.Met = (λ e. apart (cc), ⊎-elim (λ w. let e = w .2 in apart (cc)) (λ e. apart (cc)))
-missed-exactly (verdicts.Late n isExact) = (λ e. inl (n, isExact, refl), λ e. refl)
-missed-exactly verdicts.Ended = (λ e. inr refl, λ e. refl)
-missed-exactly verdicts.Open = (λ e. apart (cc), ⊎-elim (λ w. let e = w .2 in apart (cc)) (λ e. apart (cc)))
-
--- .. and it is open exactly where its verdict is open.
-pub open-exactly : (v : Verdict) → isOpen v ≡ true ↔ verdictSaid v ≡ stillOpen
-unfolding verdictSaid
-open-exactly (verdicts.Refused number place) = (λ e. apart (cc), λ e. apart (cc))
-open-exactly verdicts.Met = (λ e. apart (cc), λ e. apart (cc))
-open-exactly (verdicts.Late n isExact) = (λ e. apart (cc), λ e. apart (cc))
-open-exactly verdicts.Ended = (λ e. apart (cc), λ e. apart (cc))
-open-exactly verdicts.Open = (λ e. refl, λ e. refl)
+missed-exactly v =
+    Iff·trans (missed-reads v) (
+      ⊎-elim (λ w. inl (w .0, w .1, ap verdictSaid (w .2))) (λ e. inr (ap verdictSaid e)),
+      ⊎-elim (λ w. inl (w .0, w .1, verdict-said v (verdicts.Late (w .0) (w .1)) (w .2))) (λ e. inr (verdict-said v verdicts.Ended e)),
+    )
 
 -- The activations of a task are jobs of the list, and the task's ..
 module _ (jobs : List ℕ) (task : ℕ) where
@@ -197,6 +197,10 @@ module _ (g : Given) (r : Record) (task : ℕ) where
         go Done q e = (ap outcomeSaid q, sym (answer-done g r task m k q) ∙ e)
         go (Refused n p) q e = absurd (proper n p (sym e ∙ answer-refused g r task m k n p q))
 
+    fails-answered : (job number n : ℕ) → said ≡ failing job number n ↔ (checks ≡ done) × (judged own vs m k ≡ windows.Fails job number n)
+    unfolding windowsSaid
+    fails-answered job number n = answered (windows.Fails job number n) (λ x y e. apart (cc))
+
     -- It passes exactly where every k consecutive of the task's jobs contain at most m misses; the answer has the number of open jobs.
     pub passes-exactly : (n : ℕ) → said ≡ passing n ↔ (checks ≡ done) × ((i : ℕ) → i + k ≤ length own → misses (window vs k i) ≤ m) × (n ≡ opens vs)
     unfolding windowsSaid
@@ -218,10 +222,9 @@ module _ (g : Given) (r : Record) (task : ℕ) where
       pub open-jobs : n ≡ opens vs
 
     pub fails-exactly : (job number n : ℕ) → said ≡ failing job number n ↔ (checks ≡ done) × ((i : ℕ) × FirstFails i job number n)
-    unfolding windowsSaid
     fails-exactly job number n =
         let reads = fails-reads own vs m k job number n in
-        Iff·trans (answered (windows.Fails job number n) (λ x y e. apart (cc))) (
+        Iff·trans (fails-answered job number n) (
           λ w. let f = reads .0 (w .1) in
               (w .0, (f .0, record { there = omega (arith, f .1 .there, own-verdicts); named = f .2; counted = f .3; over = omega (arith, f .1 .over, f .3); earlier = f .1 .earlier; open-jobs = f .4 })),
           λ w. let f = w .1 .1 in
@@ -254,3 +257,53 @@ module _ (g : Given) (r : Record) (task m k n : ℕ) (passes : said g r task m k
       let w = passes-exactly g r task m k n .0 passes in
       let all = holds-shorter (vs g r task) m k k′ less (omega arith) (λ i l. w .1 i (omega arith)) in
       passes-exactly g r task m k′ n .1 (other m k′ pair, λ i l. all i (omega arith), w .2)
+
+-- ## From one record to a later one
+
+-- Whatever entries follow, where the record that they lead to is consistent. A task's open jobs are its last ones, so the windows before the
+-- first that fails have no open job, and what is missed in them is final.
+module _ (g : Given) (r : Record) (task m k : ℕ) (entries : List ℕ) (sound : consistent g (replay g r entries) ≡ true) where
+  -- the same pair and task are accepted there
+  still : checks g r task m k ≡ done → checks g (replay g r entries) task m k ≡ done
+  still ok = let w = done-exactly g r task m k .0 ok in done-exactly g (replay g r entries) task m k .1 (w .0, sound, w .2, w .3)
+
+  onward : checks g r task m k ≡ done → Later (verdictAnswer g r 0) (verdictAnswer g (replay g r entries) 0) (vs g r task) (vs g (replay g r entries) task)
+  onward ok = let a = accepted-exactly g r task m k .0 (passed g r task m k ok) in verdicts-later g (a .lists) task r (a .sound) entries sound
+
+  -- A failure stays one, with the same job: its count never falls, and the open jobs never become more ..
+  pub failing-stays : (job number n : ℕ) → said g r task m k ≡ failing job number n
+      → (number′ : ℕ) × (n′ : ℕ) × (said g (replay g r entries) task m k ≡ failing job number′ n′) × (number ≤ number′) × (n′ ≤ n)
+  failing-stays job number n says =
+      let w = fails-answered g r task m k job number n .0 says in
+      let x = judged-stays _ _ _ _ (onward (w .0)) (own g r task) m k job number n (w .1) in
+      (x .0, x .1, fails-answered g (replay g r entries) task m k job (x .0) (x .1) .1 (still (w .0), x .2), x .3, x .4)
+
+  -- .. and with no open job the answer is final.
+  pub settled : checks g r task m k ≡ done → opens (vs g r task) ≡ 0 → said g (replay g r entries) task m k ≡ said g r task m k
+  settled ok none =
+      ap windowsSaid
+      (answer-done g (replay g r entries) task m k (passed g (replay g r entries) task m k (still ok))
+      ∙ judged-final _ _ _ _ (onward ok) (own g r task) m k none ∙ sym (answer-done g r task m k (passed g r task m k ok)))
+
+-- So it is over every legal continuation: the claim check answers legal on a schedule with more entries after it.
+module _ (g : Given) (horizon : ℕ) (schedule more : List ℕ) (ok : claimSaid (claimAnswer g horizon (schedule ++ more)) ≡ legal) (task m k : ℕ) where
+  -- the record at the end of both is the one that the entries lead to, and is consistent
+  together : replayed g (schedule ++ more) ≡ replay g (replayed g schedule) more
+  unfolding replayed
+  together = replay-append g (fresh (g .lists .jobs)) schedule more
+
+  at-end : consistent g (replay g (replayed g schedule) more) ≡ true
+  at-end =
+      let c = is-legal g horizon (schedule ++ more) ok in
+      let a = c .input in
+      subst (λ (r : Record). consistent g r ≡ true) together (replayed-consistent g (schedule ++ more) (omega (arith, a .bounded, a .whole)) (c .legal))
+
+  -- A failure at the schedule's end is one at the end of both, with the same job ..
+  pub legal-failing-stays : (job number n : ℕ) → said g (replayed g schedule) task m k ≡ failing job number n
+      → (number′ : ℕ) × (n′ : ℕ) × (said g (replayed g (schedule ++ more)) task m k ≡ failing job number′ n′) × (number ≤ number′) × (n′ ≤ n)
+  legal-failing-stays job number n says = rw together (failing-stays g (replayed g schedule) task m k more at-end job number n says)
+
+  -- .. and with no open job at the schedule's end the answer there is the answer at the end of both.
+  pub legal-settled : checks g (replayed g schedule) task m k ≡ done → opens (vs g (replayed g schedule) task) ≡ 0
+      → said g (replayed g (schedule ++ more)) task m k ≡ said g (replayed g schedule) task m k
+  legal-settled passes none = rw together (settled g (replayed g schedule) task m k more at-end passes none)

@@ -12,12 +12,12 @@ use Rattle.tables.specs.Refusals.{before, refuse}
 use Rattle.zsrm.specs.declared.answers.Verdict.{Verdict}
 use Rattle.zsrm.specs.declared.answers.Verdict.the-variants as verdicts
 use Rattle.zsrm.specs.declared.answers.Verdicts.{Verdicts}
-use Rattle.zsrm.specs.Verdict.{missed}
+use Rattle.zsrm.specs.Verdict.{isOpen, missed}
 use Rattle.window.specs.declared.jobs.Gathered.{Gathered}
 use Rattle.window.specs.declared.windows.Windows.{Windows}
 use Rattle.window.specs.declared.windows.Windows.the-variants.{Fails, Passes}
 use Rattle.window.specs.Refusals.{check19, check20}
-use Rattle.window.specs.Windows.{isOpen, misses, opens}
+use Rattle.window.specs.Windows.{misses, opens}
 
 -- one of all verdicts, as an array's element is read
 abbrev pub verdictIn : Verdicts → ℕ → Verdict

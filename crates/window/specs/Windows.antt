@@ -1,18 +1,18 @@
 -- Document 02, Twelve, deadline misses over a window. Source document 004, section 2: the pair (m, K), associated to a task, means that no
 -- more than m deadline misses occur for any K consecutive activations of that task. An activation is a job of the task.
 use Prim.Native.Nat.{ℕ, zero, suc, _+_, _-_}
-use mathlib.Core.Bool.{Bool, true, false, cond}
+use mathlib.Core.Bool.{Bool, cond}
 use mathlib.Core.List.{List, [], _∷_, _++_, map}
 use lib.Dec.{eqb, ltb}
 use lib.ListN.{drop, getD, length, take}
 use Rattle.bits.specs.Below.{least}
 use Rattle.tables.specs.Tables.{jobCount, taskOf}
 use Rattle.zsrm.specs.declared.answers.Verdict.{Verdict}
-use Rattle.zsrm.specs.declared.answers.Verdict.the-variants as verdicts
 use Rattle.zsrm.specs.declared.record.Record.{Record}
 use Rattle.zsrm.specs.Answers.{verdictAnswer}
 use Rattle.zsrm.specs.Given.{Given}
 use Rattle.zsrm.specs.Verdict.{missed}
+use Rattle.zsrm.specs.Verdict.{isOpen}
 use Rattle.window.specs.declared.windows.Windows.{Windows}
 use Rattle.window.specs.declared.windows.Windows.the-variants.{Fails, Passes}
 
@@ -37,13 +37,6 @@ howMany test (v ∷ vs) = cond (test v) 1 0 + howMany test vs
 -- Deadline misses: missed means late or ended, so open jobs count as not missed.
 unfoldable pub misses : List Verdict → ℕ
 misses vs = howMany missed vs
-
-abbrev pub isOpen : Verdict → Bool
-isOpen (verdicts.Refused number place) = false
-isOpen verdicts.Met = false
-isOpen (verdicts.Late by isExact) = false
-isOpen verdicts.Ended = false
-isOpen verdicts.Open = true
 
 -- The number of open jobs is reported.
 unfoldable pub opens : List Verdict → ℕ

@@ -25,3 +25,6 @@ pub mod Promises
 pub mod GoOn
 pub mod Mend
 pub mod Mending
+pub mod Counts
+pub mod Open
+pub mod Final

@@ -5,59 +5,67 @@
 -- writes, and `mendSchedule` for what mending writes into its second list. `checkLists`, `checkStep`, `checkGoOn`, `checkSchedule`,
 -- `checkMend`, `checkVerdict` and `checkWitness` are the checks of each entry point, in the order of their numbers.
 -- `..Said` says an answer in numbers, and Said gives each its name: `done`, `refused number place`, `legal`, `notLegal t`, `whole`,
--- `changed first n`, `met`, `late n isExact`, `ended`, `outside i`, `notMissed`, `acceptedLate n isExact`, `acceptedEnded`, `unfinished`,
--- `finishedAt f`, `endedIn e`. `recordBefore g schedule t` is the record before tick t of the schedule, `replayed g schedule` the one at its
--- end, and `replay g r entries` the one that entries lead to from r; `suspendedAt r j` and `waitedAt r j` are the ticks that a record counts
--- for job j as suspended while alive and as eligible while another job ran; `differing claimed made` is the number of places at which two
--- schedules differ. Steps and runs take a tie choice, `Stay` or `Lowest`, and `r .previous` is what r keeps as the entry before its tick; a
--- caller may hand in any job there. All of them are definitions of specs/. Laws/Promises has `topmost-example`, a table that meets the
--- premise of (ii), and Traced `ties-differ`, a record from which the tie choices differ, `lowest-goes-on-illegally`, a legal schedule after
--- which Lowest does not go on legally, and `mends`, damaged claims and what comes back.
-use Prim.Native.Nat.{_*_, _+_, _-_, _<_, ℕ, _≤_}
+-- `changed first n`, `met`, `late n isExact`, `ended`, `stillOpen`, `outside i`, `notMissed`, `acceptedLate n isExact`, `acceptedEnded`,
+-- `notArrived`, `unfinished`, `finishedAt f`, `endedIn e`. `recordBefore g schedule t` is the record before tick t of the schedule,
+-- `replayed g schedule` the one at its end, and `replay g r entries` the one that entries lead to from r; `suspendedAt r j` and
+-- `waitedAt r j` are the ticks that a record counts for job j as suspended while alive and as eligible while another job ran;
+-- `differing claimed made` is the number of places at which two schedules differ. Steps and runs take a tie choice, `Stay` or `Lowest`, and
+-- `r .previous` is what r keeps as the entry before its tick; a caller may hand in any job there. All of them are definitions of specs/.
+-- Traced has `premises-met-S` and `premises-met-SE`, schedules that meet all premises of (ii), one in each mode, `ties-differ`, a record
+-- from which the tie choices differ, `lowest-goes-on-illegally`, a legal schedule after which Lowest does not go on legally, and `mends`,
+-- damaged claims and what comes back.
+use Prim.Native.Nat.{_%_, _*_, _+_, _-_, _<_, ℕ, _≤_}
 use mathlib.Core.Bool.{Bool, false, true}
 use mathlib.Core.List.{_++_, List, [], _∷_}
-use mathlib.Core.Logic.{_↔_}
+use mathlib.Core.Logic.{inl, _↔_, _⊎_}
 use mathlib.Core.Path.{ap, refl, subst, sym, _≡_, _∙_}
 use native.Mathlib.Omega.{arith}
 use lib.ListN.{getD, length}
 use Rattle.tables.specs.declared.outcome.Outcome.the-variants.{Done, Refused}
 use Rattle.zsrm.specs.declared.answers.Judged.{Judged}
 use Rattle.zsrm.specs.declared.answers.Stepped.{Stepped}
+use Rattle.zsrm.specs.declared.mode.Mode.the-variants.{S}
 use Rattle.zsrm.specs.declared.record.Record.{Record}
 use Rattle.zsrm.specs.declared.tie.Tie.{Tie}
 use Rattle.zsrm.specs.declared.tie.Tie.the-variants.{Lowest, Stay}
 use Rattle.zsrm.specs.declared.record.Standing.the-variants.{Finished, Ended}
 use Rattle.zsrm.specs.Answers.{checkGoOn, checkMend, checkSchedule, checkStep, checkVerdict, checkWitness, claimAnswer, freshAnswer, goOnAnswer, goOnSchedule, mendAnswer, mendSchedule, ran, refusedStep, responseAnswer, judgedAt, runAnswer, runSchedule, stepAnswer, stepped, stepsFrom, verdictAnswer, verdictsAnswer, witnessAnswer}
-use Rattle.zsrm.specs.Record.{blank, consistent, fresh, standingAt, suspendedAt, waitedAt}
+use Rattle.zsrm.specs.Record.{blank, consistent, fresh, standingAt, suspendedAt, waitedAt, doneAt}
 use Rattle.tables.specs.Refusals.{checkLists}
 use Rattle.zsrm.specs.Run.{replay, replayed, recordBefore}
-use Rattle.zsrm.specs.Said.{acceptedEnded, acceptedLate, changed, claimSaid, ended, endedIn, finishedAt, late, legal, mendedSaid, met, notLegal, notMissed, standingSaid, unfinished, verdictSaid, whole, witnessSaid, outside}
+use Rattle.zsrm.specs.Said.{acceptedEnded, acceptedLate, changed, claimSaid, ended, endedIn, finishedAt, late, legal, mendedSaid, met, notArrived, notLegal, notMissed, standingSaid, stillOpen, unfinished, verdictSaid, whole, witnessSaid, outside}
 use Rattle.tables.specs.Said.{done, outcomeSaid, refused}
-use Rattle.zsrm.specs.Given.{Given}
+use Rattle.zsrm.specs.Given.{Given, isSE}
 use Rattle.zsrm.specs.Mend.{differing, mendChoice}
 use Rattle.tables.specs.Tables.{arrival, deadline, deadlineInstant, idle, jobCount, jobCriticality, taskOf, zeroSlackInstant, lists, execution, jobNominal}
-use Rattle.zsrm.specs.Tick.{candidate, choice}
+use Rattle.zsrm.specs.Tick.{candidate, choice, suspended, waits}
 use Rattle.zsrm.specs.Topmost.{Topmost, assured}
-use Rattle.zsrm.specs.Verdict.{emptyPart}
+use Rattle.zsrm.specs.Verdict.{emptyPart, missed}
 use Rattle.zsrm.proofs.Laws.Answers.{is-legal, met-answer, run-claim, run-outcome}
 use Rattle.zsrm.proofs.Laws.Assumption.{ended-broken, first-outside}
-use Rattle.zsrm.proofs.Laws.Consistent.{pending-alive}
-use Rattle.zsrm.proofs.Laws.Promises.{ended-accepted, late-accepted, met-not-missed, ran-consistent, ran-entry, ran-replayed, ran-step-done, ran-steps, run-checked, run-refused-keeps, shown-entries, shown-from, shown-length, step-stays, response-made, outside-answered}
+use Rattle.zsrm.proofs.Laws.Consistent.{pending-alive, unended}
+use Rattle.zsrm.proofs.Laws.Promises.{ended-accepted, late-accepted, not-legal-answered, not-missed-answered, ran-consistent, ran-entry, ran-replayed, ran-step-done, ran-steps, run-checked, run-refused-keeps, shown-entries, shown-from, shown-length, step-stays, response-made, outside-answered}
 use Rattle.zsrm.proofs.Laws.Places.{previous-advanced}
 use Rattle.zsrm.proofs.Laws.Replay.{legal-at, legal-may, replayed-is, tick-recordBefore}
 use Rattle.bits.proofs.Below.{getD-list}
 use Rattle.bits.proofs.Bools.{fails}
-use Rattle.zsrm.proofs.Laws.Said.{finish-told, standing-said}
+use Rattle.zsrm.proofs.Laws.Said.{finish-told, standing-said, verdict-said}
 use Rattle.zsrm.proofs.Laws.Tick.{dispatch-serves, past-exactly}
 use Rattle.zsrm.proofs.Laws.Ties.{run-ties}
 use Rattle.zsrm.proofs.Laws.Topmost.{assured-in-time, topmost-finished, topmost-unsuspended, topmost-within}
 use Rattle.zsrm.proofs.Readings.{LeastIllegal, LegalAt, FirstOutside, Within}
-use Rattle.zsrm.proofs.Laws.Verdicts.{legal-consistent}
+use Rattle.zsrm.proofs.Laws.Verdicts.{empty-finished, legal-consistent, verdict-named, verdict-sound}
 use Rattle.tables.proofs.Laws.Accepted.{lists-few, lists-jobs, lists-tasks}
 use Rattle.tables.proofs.Laws.Said.{outcome-said}
 use Rattle.zsrm.proofs.Laws.Called.{c-refused-both, c-run-claim, c-run-kept, c-run-zero}
-use Rattle.zsrm.specs.Bytes.{bytes2, checkBytes, claimResult, givenBytes, numbers2, runBytes, runResult}
+use Rattle.zsrm.specs.Bytes.{bytes2, checkBytes, claimResult, givenBytes, numbers2, packedClaim, packedOutcome, runBytes, runResult}
 use Rattle.zsrm.proofs.Laws.Called as called
+use Rattle.zsrm.proofs.Laws.Counts as counts
+use Rattle.zsrm.proofs.Laws.Final.{answer-final}
+use Rattle.zsrm.proofs.Laws.Open.{open-last}
+use Rattle.zsrm.specs.declared.answers.Verdict.the-variants.{Open}
+use Rattle.bits.specs.Below.{count}
+use lib.Dec.{eqb}
 use Rattle.zsrm.proofs.Laws.Exactly as exactly
 use Rattle.zsrm.proofs.Laws.GoOn as parts
 use Rattle.zsrm.proofs.Laws.Mend as mending
@@ -237,6 +245,10 @@ module _ (g : Given) (tie : Tie) (r : Record) where
       let says = parts.go-on-past-said g tie r ticks lent lists whole sound past in
       (says, refused-go-on-keeps g tie r ticks lent 12 0 says .0)
 
+  -- Going on is given no horizon: it is never refused with 9, whatever the place.
+  pub go-on-never-nine : (ticks : ℕ) (lent : List ℕ) (place : ℕ) → outcomeSaid (goOnAnswer g tie r ticks lent .outcome) ≡ refused 9 place → ⊥
+  go-on-never-nine ticks lent place says = parts.go-on-never-nine g tie r ticks lent place says
+
   -- Running 0 ticks gives a consistent record back, at tick 16,384 too.
   pub go-on-nothing : outcomeSaid (checkLists (g .lists)) ≡ done → consistent g r ≡ true
       → (outcomeSaid (goOnAnswer g tie r 0 [] .outcome) ≡ done) × (goOnAnswer g tie r 0 [] .«record» ≡ r) × (goOnSchedule g tie r 0 [] ≡ [])
@@ -376,8 +388,21 @@ module _ (g : Given) (horizon : ℕ) (schedule : List ℕ) where
       ↔ (claimSaid (claimAnswer g horizon schedule) ≡ legal) × (j < jobCount (g .lists .jobs)) × FirstOutside g j i
   witness-outside-exactly j i = outside-answered g horizon schedule j i
 
+  -- It is answered "not missed" exactly when its schedule is legal, the named job is in the list, every strictly more critical job keeps to
+  -- C, and the named job is met or open ..
+  pub witness-not-missed-exactly : (j : ℕ) → witnessSaid (witnessAnswer g horizon schedule j) ≡ notMissed
+      ↔ (claimSaid (claimAnswer g horizon schedule) ≡ legal) × (j < jobCount (g .lists .jobs)) × Within g j
+      × ((verdictSaid (verdictAnswer g (replayed g schedule) j) ≡ met) ⊎ (verdictSaid (verdictAnswer g (replayed g schedule) j) ≡ stillOpen))
+  witness-not-missed-exactly j = not-missed-answered g horizon schedule j
+
+  -- .. and "not legal at t" exactly when the claim check answers that of its schedule, and the named job is in the list.
+  pub witness-not-legal-exactly : (j t : ℕ) → witnessSaid (witnessAnswer g horizon schedule j) ≡ notLegal t
+      ↔ (claimSaid (claimAnswer g horizon schedule) ≡ notLegal t) × (j < jobCount (g .lists .jobs))
+  witness-not-legal-exactly j t = not-legal-answered g horizon schedule j t
+
 -- A verdict from a record that passes the checks: met exactly when the job finished by arrival + D; late by exactly n when it finished n
--- ticks, one or more, after that instant; late by at least n when it is unfinished n ticks, none or more, after it; ended when it was ended.
+-- ticks, one or more, after that instant; late by at least n when it is unfinished n ticks, none or more, after it; ended when it was ended;
+-- open when it has not arrived, or is unfinished before that instant.
 module _ (g : Given) (r : Record) (j : ℕ) where
   pub met-exactly : verdictSaid (verdictAnswer g r j) ≡ met
       ↔ (outcomeSaid (checkVerdict g r j) ≡ done) × ((f : ℕ) × (standingSaid (standingAt r j) ≡ finishedAt f) × (f ≤ deadlineInstant (g .lists) j))
@@ -395,6 +420,11 @@ module _ (g : Given) (r : Record) (j : ℕ) where
       ↔ (outcomeSaid (checkVerdict g r j) ≡ done) × ((e : ℕ) × (standingSaid (standingAt r j) ≡ endedIn e))
   ended-exactly = exactly.ended-exactly g r j
 
+  pub open-exactly : verdictSaid (verdictAnswer g r j) ≡ stillOpen
+      ↔ (outcomeSaid (checkVerdict g r j) ≡ done)
+      × ((standingSaid (standingAt r j) ≡ notArrived) ⊎ ((standingSaid (standingAt r j) ≡ unfinished) × (r .tick < deadlineInstant (g .lists) j)))
+  open-exactly = exactly.open-exactly g r j
+
   -- The exact number of a finished job is its response minus D.
   pub late-response : (n f : ℕ) → verdictSaid (verdictAnswer g r j) ≡ late n true → standingSaid (standingAt r j) ≡ finishedAt f
       → f - arrival (g .lists .jobs) j ≡ deadline (g .lists .tasks) (taskOf (g .lists .jobs) j) + n
@@ -411,6 +441,12 @@ module _ (g : Given) (r : Record) (j : ℕ) where
   pub late-grows : (n m : ℕ) (isExact : Bool) (entries : List ℕ) → verdictSaid (verdictAnswer g r j) ≡ late n false
       → verdictSaid (verdictAnswer g (replay g r entries) j) ≡ late m isExact → n ≤ m
   late-grows n m isExact entries says later = exactly.late-grows g r j n entries says m isExact later
+
+  -- A verdict that is given and is not open is final: whatever entries follow, if the record that they lead to is consistent, the job's
+  -- verdict there is not open, and it is missed there exactly where it was missed (`missed`: late or ended).
+  pub verdict-final : (entries : List ℕ) → outcomeSaid (checkVerdict g r j) ≡ done → (verdictSaid (verdictAnswer g r j) ≡ stillOpen → ⊥) → consistent g (replay g r entries) ≡ true
+      → (verdictSaid (verdictAnswer g (replay g r entries) j) ≡ stillOpen → ⊥) × (missed (verdictAnswer g (replay g r entries) j) ≡ missed (verdictAnswer g r j))
+  verdict-final entries ok closed sound = answer-final g r j entries ok closed sound
 
 -- All verdicts at once are the verdicts one by one, refusals too.
 pub verdicts-each : (g : Given) (r : Record) (j : ℕ) (d : Judged) → j < 64 → getD (verdictsAnswer g r .of) j d .verdict ≡ verdictAnswer g r j
@@ -451,6 +487,25 @@ module _ (g : Given) (horizon : ℕ) (schedule : List ℕ) where
       let e = ended-exactly g (replayed g schedule) j .0 (w .3) .1 in
       within-unended (w .0) j (w .1) (w .2) (e .0) (e .1)
 
+-- In mode S nothing is ended: no place of a consistent record stands as ended (of legal schedules: `nothing-ended-in-S`).
+pub consistent-unended-in-S : (g : Given) (r : Record) → g .mode ≡ S → consistent g r ≡ true
+    → (j e : ℕ) → j < 64 → standingSaid (standingAt r j) ≡ endedIn e → ⊥
+unfolding standingSaid
+consistent-unended-in-S g r s sound j e l says = unended g r sound s j e l (standing-said (standingAt r j) (Ended e) says)
+
+-- So from no record is a job judged ended ..
+pub verdict-unended-in-S : (g : Given) (r : Record) (j : ℕ) → g .mode ≡ S → verdictSaid (verdictAnswer g r j) ≡ ended → ⊥
+unfolding outcomeSaid
+verdict-unended-in-S g r j s says =
+    let w = ended-exactly g r j .0 says in
+    let ok = outcome-said (checkVerdict g r j) Done (w .0) in
+    let n = verdict-named g r j ok in
+    consistent-unended-in-S g r s (verdict-sound g r j ok) j (w .1 .0) (omega (arith, n .job, n .few)) (w .1 .1)
+
+-- .. and every step's ended word is 0, refused or not.
+pub step-ends-none-in-S : (g : Given) (tie : Tie) (r : Record) → g .mode ≡ S → stepAnswer g tie r .ended ≡ 0
+step-ends-none-in-S g tie r s = exactly.step-ends-none g tie r (ap isSE s)
+
 -- The calls from C, over the lists that the bytes spell: 0 is "done" of a run and "legal" of a claim, 65,536 + t is "not legal at t"; the
 -- bytes that a run then has written are our run's, and the claim check calls them legal.
 module _ (mode : ℕ) (tasks jobs : List ℕ) (horizon : ℕ) (bytes : List ℕ) where
@@ -474,12 +529,41 @@ module _ (mode : ℕ) (tasks jobs : List ℕ) (horizon : ℕ) (bytes : List ℕ)
   pub c-run-is-legal : runResult mode tasks jobs horizon bytes ≡ 0 → claimResult mode tasks jobs horizon (runBytes mode tasks jobs horizon bytes) ≡ 0
   c-run-is-legal e = c-run-claim mode tasks jobs horizon bytes e
 
+  -- For mode 0 or 1 and whole byte counts both results are the answers of the run and of the claim check on the numbers that the bytes spell,
+  -- packed into one number (`packedOutcome`, `packedClaim`), refusals too.
+  module _ (known : mode ≤ 1) (whole-tasks : length tasks % 4 ≡ 0) (whole-jobs : length jobs % 4 ≡ 0) (whole-entries : length bytes % 2 ≡ 0) where
+    pub c-run-is-run : runResult mode tasks jobs horizon bytes ≡ packedOutcome (runAnswer (givenBytes mode tasks jobs) Stay horizon (numbers2 bytes) .outcome)
+    c-run-is-run = called.c-run-is-run mode tasks jobs horizon bytes known whole-tasks whole-jobs whole-entries
+
+    pub c-claim-is-claim : claimResult mode tasks jobs horizon bytes ≡ packedClaim (claimAnswer (givenBytes mode tasks jobs) horizon (numbers2 bytes))
+    c-claim-is-claim = called.c-claim-is-claim mode tasks jobs horizon bytes known whole-tasks whole-jobs whole-entries
+
 -- ## Demand 3, of any schedule that the claim check answers legal
 
 module _ (g : Given) (horizon : ℕ) (schedule : List ℕ) (ok : claimSaid (claimAnswer g horizon schedule) ≡ legal) where
   -- The record before each of its ticks, and the one at its end, is consistent.
   pub always-consistent : (t : ℕ) → consistent g (recordBefore g schedule t) ≡ true
   always-consistent t = let c = is-legal g horizon schedule ok in let a = c .input in legal-consistent g schedule (omega arith) (c .legal) t
+
+  -- So in mode S no job is ended in the record before any tick, nor in the one at its end.
+  module _ (s : g .mode ≡ S) (j e : ℕ) (l : j < jobCount (g .lists .jobs)) where
+    pub nothing-ended-in-S : (t : ℕ) → standingSaid (standingAt (recordBefore g schedule t) j) ≡ endedIn e → ⊥
+    nothing-ended-in-S t says =
+        let few = lists-few (g .lists) (is-legal g horizon schedule ok .input .lists) in
+        consistent-unended-in-S g (recordBefore g schedule t) s (always-consistent t) j e (omega arith) says
+
+    pub nothing-ended-in-S-at-end : standingSaid (standingAt (replayed g schedule) j) ≡ endedIn e → ⊥
+    nothing-ended-in-S-at-end =
+        subst (λ (r : Record). standingSaid (standingAt r j) ≡ endedIn e → ⊥) (replayed-is g schedule horizon (is-legal g horizon schedule ok .input .whole)) (nothing-ended-in-S horizon)
+
+  -- At its end a job with execution time 0 whose arrival it reaches is finished at its arrival.
+  pub empty-job-finishes : (j : ℕ) → j < jobCount (g .lists .jobs) → execution (g .lists .jobs) j ≡ 0 → arrival (g .lists .jobs) j ≤ horizon
+      → standingSaid (standingAt (replayed g schedule) j) ≡ finishedAt (arrival (g .lists .jobs) j)
+  unfolding standingSaid
+  empty-job-finishes j l none reached =
+      let a = is-legal g horizon schedule ok .input in
+      let few = lists-few (g .lists) (a .lists) in
+      ap standingSaid (empty-finished g schedule j (omega arith) l none (omega (arith, a .whole)))
 
   -- A job that is neither finished nor ended at t.
   pub record Pending (t j : ℕ) : Type 0 where
@@ -535,8 +619,8 @@ module _ (g : Given) (horizon : ℕ) (schedule : List ℕ) (ok : claimSaid (clai
     pub never-blamed : deadlineInstant (g .lists) j ≤ horizon → witnessSaid (witnessAnswer g horizon schedule j) ≡ notMissed
     never-blamed h =
         let a = is-legal g horizon schedule ok .input in
-        met-not-missed g horizon schedule ok j l
-        (topmost-within g k (lists-tasks (g .lists) (a .lists)) (lists-jobs (g .lists) (a .lists)) top j (record { job = l; its = its })) (meets h)
+        let within = topmost-within g k (lists-tasks (g .lists) (a .lists)) (lists-jobs (g .lists) (a .lists)) top j (record { job = l; its = its }) in
+        witness-not-missed-exactly g horizon schedule j .1 (ok, l, within, inl (meets h))
 
     -- Nor is it ever suspended: it has 0 ticks suspended in the record before every tick, and in the one at the end.
     pub never-suspended : (t : ℕ) → suspendedAt (recordBefore g schedule t) j ≡ 0
@@ -557,6 +641,55 @@ module _ (g : Given) (horizon : ℕ) (schedule : List ℕ) (ok : claimSaid (clai
   unfolding standingSaid
   response-is j f l says = response-made g horizon schedule ok j l f (standing-said (standingAt (replayed g schedule) j) (Finished f) says)
 
+  -- ## What a record counts is counted over the schedule, nothing is invented: `count n f` is the number of ticks below n that pass f, and
+  -- `getD schedule t idle` the entry of tick t
+
+  module _ (j : ℕ) (l : j < jobCount (g .lists .jobs)) where
+    -- At the end, which is the case t = horizon of `done-before` to `waited-before` below, a job's `done` is the number of its entries, idle
+    -- being no job ..
+    pub done-counted : doneAt (replayed g schedule) j ≡ count horizon (λ t. eqb (getD schedule t idle) j)
+    done-counted = counts.done-count g schedule horizon j (replayed g schedule) (counts.at-end g horizon schedule ok j l)
+
+    -- .. its ticks suspended are the ticks in which it was suspended, which it is only while alive ..
+    pub suspended-counted : suspendedAt (replayed g schedule) j ≡ count horizon (λ t. suspended g (recordBefore g schedule t) j)
+    suspended-counted = counts.suspended-count g schedule horizon j (replayed g schedule) (counts.at-end g horizon schedule ok j l)
+
+    -- .. among them the tick in which it was ended, where it was ..
+    pub ended-counted : (e : ℕ) → standingSaid (standingAt (replayed g schedule) j) ≡ endedIn e → (e < horizon) × (suspended g (recordBefore g schedule e) j ≡ true)
+    unfolding standingSaid
+    ended-counted e says =
+        counts.ended-in g schedule horizon j (replayed g schedule) (counts.at-end g horizon schedule ok j l) e (standing-said (standingAt (replayed g schedule) j) (Ended e) says)
+
+    -- .. and its ticks waited are the ticks in which it was eligible while another job of the list ran (`waits`).
+    pub waited-counted : waitedAt (replayed g schedule) j ≡ count horizon (λ t. waits g (recordBefore g schedule t) (getD schedule t idle) j)
+    waited-counted = counts.waited-count g schedule horizon j (replayed g schedule) (counts.at-end g horizon schedule ok j l)
+
+-- All four hold before each tick t, over the t ticks before it, and need no legality: of any schedule, and at every place of its records.
+module _ (g : Given) (schedule : List ℕ) (t j : ℕ) (b : t ≤ length schedule) (l : j < 64) where
+  pub done-before : doneAt (recordBefore g schedule t) j ≡ count t (λ i. eqb (getD schedule i idle) j)
+  done-before = counts.done-count g schedule t j (recordBefore g schedule t) (record { place = l; within = b; is = refl })
+
+  pub suspended-before : suspendedAt (recordBefore g schedule t) j ≡ count t (λ i. suspended g (recordBefore g schedule i) j)
+  suspended-before = counts.suspended-count g schedule t j (recordBefore g schedule t) (record { place = l; within = b; is = refl })
+
+  pub ended-before : (e : ℕ) → standingSaid (standingAt (recordBefore g schedule t) j) ≡ endedIn e → (e < t) × (suspended g (recordBefore g schedule e) j ≡ true)
+  unfolding standingSaid
+  ended-before e says =
+      counts.ended-in g schedule t j (recordBefore g schedule t) (record { place = l; within = b; is = refl }) e
+      (standing-said (standingAt (recordBefore g schedule t) j) (Ended e) says)
+
+  pub waited-before : waitedAt (recordBefore g schedule t) j ≡ count t (λ i. waits g (recordBefore g schedule i) (getD schedule i idle) j)
+  waited-before = counts.waited-count g schedule t j (recordBefore g schedule t) (record { place = l; within = b; is = refl })
+
+-- ## A task's open jobs are its last ones: from whatever record a job is judged open, which takes accepted lists and a consistent record,
+-- every later job of its task is judged open, too. D ≤ T, so it has not arrived.
+
+pub open-jobs-last : (g : Given) (r : Record) (i j : ℕ) → verdictSaid (verdictAnswer g r i) ≡ stillOpen
+    → i < j → j < jobCount (g .lists .jobs) → taskOf (g .lists .jobs) j ≡ taskOf (g .lists .jobs) i → verdictSaid (verdictAnswer g r j) ≡ stillOpen
+unfolding verdictSaid
+open-jobs-last g r i j says m l its = ap verdictSaid (open-last g r i j m l its (verdict-said (verdictAnswer g r i) Open says))
+
+module _ (g : Given) (horizon : ℕ) (schedule : List ℕ) (ok : claimSaid (claimAnswer g horizon schedule) ≡ legal) where
   -- ## The part that is shown of a job that finished at f: the schedule's entries from its arrival up to f
 
   pub part-shown : (j f : ℕ) → j < jobCount (g .lists .jobs) → standingSaid (standingAt (replayed g schedule) j) ≡ finishedAt f

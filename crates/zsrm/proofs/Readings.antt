@@ -33,7 +33,8 @@ use Rattle.zsrm.specs.Given.{isSE, Given}
 use Rattle.zsrm.specs.Run.{replay, replayed, recordAt, recordBefore}
 use Rattle.tables.specs.Tables.{arrival, deadlineInstant, execution, idle, jobCount, jobCriticality, jobNominal, jobPriority, zeroSlackInstant}
 use Rattle.zsrm.specs.Tick.{advanced, alive, candidate, choice, doneAfter, eligible, endedWord, ends, finishes, goesOn, jobWord, keeps, lowest, moreCritical, over, pastZeroSlack, placeAfter, readyAt, readyCount, readyWord, someJob, standingAfter, suspended, suspendedAfter, waitedAfter, waits}
-use Rattle.zsrm.specs.Verdict.{answered, blamed, judged, missed, verdict, witness, breaks, isOutside, outsider}
+use Rattle.zsrm.specs.Said.{verdictSaid}
+use Rattle.zsrm.specs.Verdict.{answered, blamed, isEnded, isLate, isMet, isOpen, judged, missed, verdict, witness, breaks, isOutside, outsider}
 use Rattle.zsrm.proofs.Laws.Places.{done-advanced, alive-unfinished, previous-advanced, standing-alive, suspended-advanced, waited-advanced}
 use Rattle.zsrm.proofs.Laws.Ready.{ready-ones, ready-exactly}
 use Rattle.zsrm.proofs.Laws.Replay.{legal-at, Beginning, beginning, beginning-is}
@@ -44,6 +45,7 @@ use Rattle.zsrm.specs.declared.answers.Verdict.the-variants as verdicts
 use Rattle.zsrm.specs.declared.answers.Witness.the-variants as witnesses
 use Rattle.zsrm.specs.declared.answers.Claim.the-variants as claims
 use Rattle.zsrm.proofs.Laws.Choice as choices
+use Rattle.zsrm.specs.Said as say
 
 -- some job of the list; every job of the list
 abbrev pub SomeJob : Given → (ℕ → Type 0) → Type 0
@@ -384,6 +386,39 @@ verdict-reads g r j v = (λ e. subst J e (holds (standingAt r j) refl), back v)
     back verdicts.Open (inl w) = rw w
     back verdicts.Open (inr w) = rw (alive-reads r j .0 (w .0), lt-leb D (r .tick) (w .1))
     back (verdicts.Refused number place) w = absurd w
+
+-- A verdict is met, late, ended or open exactly where it is that in numbers.
+pub isMet-reads : (v : Verdict) → isMet v ≡ true ↔ verdictSaid v ≡ say.met
+unfolding verdictSaid
+isMet-reads (verdicts.Refused number place) = (λ e. apart (cc), λ e. apart (cc))
+isMet-reads verdicts.Met = (λ e. refl, λ e. refl)
+isMet-reads (verdicts.Late n isExact) = (λ e. apart (cc), λ e. apart (cc))
+isMet-reads verdicts.Ended = (λ e. apart (cc), λ e. apart (cc))
+isMet-reads verdicts.Open = (λ e. apart (cc), λ e. apart (cc))
+
+pub isLate-reads : (v : Verdict) → isLate v ≡ true ↔ ((n : ℕ) × (isExact : Bool) × (verdictSaid v ≡ say.late n isExact))
+unfolding verdictSaid
+isLate-reads (verdicts.Refused number place) = (λ e. apart (cc), λ w. let e = w .2 in apart (cc))
+isLate-reads verdicts.Met = (λ e. apart (cc), λ w. let e = w .2 in apart (cc))
+isLate-reads (verdicts.Late n isExact) = (λ e. (n, isExact, refl), λ w. refl)
+isLate-reads verdicts.Ended = (λ e. apart (cc), λ w. let e = w .2 in apart (cc))
+isLate-reads verdicts.Open = (λ e. apart (cc), λ w. let e = w .2 in apart (cc))
+
+pub isEnded-reads : (v : Verdict) → isEnded v ≡ true ↔ verdictSaid v ≡ say.ended
+unfolding verdictSaid
+isEnded-reads (verdicts.Refused number place) = (λ e. apart (cc), λ e. apart (cc))
+isEnded-reads verdicts.Met = (λ e. apart (cc), λ e. apart (cc))
+isEnded-reads (verdicts.Late n isExact) = (λ e. apart (cc), λ e. apart (cc))
+isEnded-reads verdicts.Ended = (λ e. refl, λ e. refl)
+isEnded-reads verdicts.Open = (λ e. apart (cc), λ e. apart (cc))
+
+pub isOpen-reads : (v : Verdict) → isOpen v ≡ true ↔ verdictSaid v ≡ say.stillOpen
+unfolding verdictSaid
+isOpen-reads (verdicts.Refused number place) = (λ e. apart (cc), λ e. apart (cc))
+isOpen-reads verdicts.Met = (λ e. apart (cc), λ e. apart (cc))
+isOpen-reads (verdicts.Late n isExact) = (λ e. apart (cc), λ e. apart (cc))
+isOpen-reads verdicts.Ended = (λ e. apart (cc), λ e. apart (cc))
+isOpen-reads verdicts.Open = (λ e. refl, λ e. refl)
 
 -- "Missed means late or ended."
 abbrev pub IsLate : Verdict → Type 0

@@ -33,6 +33,38 @@ judged due h NotArrived = verdicts.Open
 unfoldable pub verdict : Lists → Record → ℕ → Verdict
 verdict l r j = judged (deadlineInstant l j) (r .tick) (standingAt r j)
 
+-- The verdict on a job is met ..
+abbrev pub isMet : Verdict → Bool
+isMet (verdicts.Refused number place) = false
+isMet verdicts.Met = true
+isMet (verdicts.Late by isExact) = false
+isMet verdicts.Ended = false
+isMet verdicts.Open = false
+
+-- .. late ..
+abbrev pub isLate : Verdict → Bool
+isLate (verdicts.Refused number place) = false
+isLate verdicts.Met = false
+isLate (verdicts.Late by isExact) = true
+isLate verdicts.Ended = false
+isLate verdicts.Open = false
+
+-- .. ended ..
+abbrev pub isEnded : Verdict → Bool
+isEnded (verdicts.Refused number place) = false
+isEnded verdicts.Met = false
+isEnded (verdicts.Late by isExact) = false
+isEnded verdicts.Ended = true
+isEnded verdicts.Open = false
+
+-- .. or open.
+abbrev pub isOpen : Verdict → Bool
+isOpen (verdicts.Refused number place) = false
+isOpen verdicts.Met = false
+isOpen (verdicts.Late by isExact) = false
+isOpen verdicts.Ended = false
+isOpen verdicts.Open = true
+
 -- Missed means late or ended.
 abbrev pub missed : Verdict → Bool
 missed (verdicts.Refused number place) = false

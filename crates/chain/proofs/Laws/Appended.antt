@@ -25,10 +25,10 @@ use Rattle.chain.specs.Bytes.{bytesOf}
 use Rattle.chain.specs.Layout.{known, numberOf, width}
 use Rattle.chain.specs.Refusals.{checkShown, checkTrailer, endAfter}
 use Rattle.chain.specs.Table.{checkTable, numbersFrom, tableOf}
-use Rattle.chain.specs.Trailer.{endOf, lastPlace, misfits, trailerNumbers, trailerAt}
+use Rattle.chain.specs.Trailer.{endOf, lastPlace, misfits, none, trailerNumbers, trailerAt}
 use Rattle.chain.proofs.Laws.Appending.{Accepted, last-checked, last-none, last-small, written}
 use Rattle.chain.proofs.Laws.Bytes.{length-bytes, read-back, sets-above, sets-below}
-use Rattle.chain.proofs.Laws.Reading.{read-trailer, trailer-unknown}
+use Rattle.chain.proofs.Laws.Reading.{read-there, read-trailer, trailer-unknown}
 use Rattle.chain.proofs.Laws.Refusals.{Kept, end-of-none, end-of-place, keeps, trailer-whole, wholly}
 use Rattle.chain.proofs.Laws.Table.{list-of, whole-tasks}
 
@@ -124,7 +124,8 @@ module _ (layout : Layout) (file : List ℕ) (used : ℕ) (table : List ℕ) (w 
       go (yes e) = omega (arith, end-of-none (lastPlace used) (last-none used e))
       go (no some) =
           let whole = trailer-whole Two file used (lastPlace used) (sym (last-checked file used some) ∙ w .last) in
-          omega (arith, end-of-place (lastPlace used) (whole .placed), whole .ends)
+          let placed : lastPlace used ≡ none → ⊥ = λ e. omega (arith, w .space .placed, whole .ends) in
+          omega (arith, end-of-place (lastPlace used) placed, whole .ends)
 
   fills : (k : Known) → (k ≡ Is layout) ⊎ (k ≡ Unknown) → misfits k trailer at ≡ false
   unfolding misfits newTrailer
@@ -138,12 +139,14 @@ module _ (layout : Layout) (file : List ℕ) (used : ℕ) (table : List ℕ) (w 
   places-kept reader =
       let space = w .space in
       let kept : Kept reader trailer at = record { behind = last-ends; within = omega arith; fills = fills (known reader (numberOf layout)) (own-known reader layout) } in
-      rw (wholly (length after) end at (record { fits = omega (arith, length-after, space .listed); ends = omega arith; placed = λ e. omega (arith, space .placed) }), trailer-back)
+      rw (wholly (length after) end at (record { fits = omega (arith, length-after, space .listed); ends = omega arith }), trailer-back)
       (keeps reader trailer at kept)
 
   read-new : (reader : Layout) → readAnswer reader after end at ≡ readTrailer reader after trailer
   read-new reader =
-      read-trailer reader after end at Done (sym (places-kept reader)) refl ∙ ap (readTrailer reader after) trailer-back
+      read-there reader after end at (λ e. omega (arith, w .space .placed))
+      ∙ read-trailer reader after end at Done (sym (places-kept reader)) refl
+      ∙ ap (readTrailer reader after) trailer-back
 
   -- a reader that knows the layout is shown the table
   pub read-known : (reader : Layout) → known reader (numberOf layout) ≡ Is layout → Numbers table → readAnswer reader after end at ≡ shown trailer table

@@ -1,9 +1,12 @@
 -- Laws of what is read, by what the checks find.
 use Prim.Native.Nat.{ℕ, _-_, _*_, _<_, _≤_}
 use mathlib.Core.List.{List}
-use mathlib.Core.Path.{ap, refl, sym, _∙_, _≡_}
+use mathlib.Core.Logic.{_⊎_, ⊎-elim}
+use mathlib.Core.Path.{ap, refl, subst, sym, _∙_, _≡_}
+use native.Mathlib.Decide.{ℕ-discrete}
 use native.Mathlib.Omega.{arith}
 use lib.ListN.{take}
+use borrow.Author.Tests.{eq-eqb, ne-eqb}
 use Rattle.tables.specs.declared.outcome.Outcome.{Outcome}
 use Rattle.tables.specs.declared.outcome.Outcome.the-variants.{Done, Refused}
 use Rattle.tables.specs.Refusals.{unless}
@@ -13,11 +16,11 @@ use Rattle.chain.specs.declared.layout.Known.{Known}
 use Rattle.chain.specs.declared.layout.Known.the-variants.{Is, Unknown}
 use Rattle.chain.specs.declared.layout.Layout.{Layout}
 use Rattle.chain.specs.declared.trailer.Trailer.{Trailer}
-use Rattle.chain.specs.Answers.{lastAnswer, nothing, passed, readAnswer, readTable, readTrailer, shown}
+use Rattle.chain.specs.Answers.{lastAnswer, nothing, passed, readAnswer, readAt, readTable, readTrailer, shown}
 use Rattle.chain.specs.Layout.{known, width}
 use Rattle.chain.specs.Refusals.{checkShown, checkTrailer}
 use Rattle.chain.specs.Table.{checkTable, numbersFrom, padded, tableOf}
-use Rattle.chain.specs.Trailer.{trailerAt}
+use Rattle.chain.specs.Trailer.{none, trailerAt}
 use Rattle.chain.proofs.Laws.Refusals.{trailer-short}
 use Rattle.chain.proofs.Laws.Table.{length-numbers, many-refused, take-padded}
 
@@ -71,17 +74,47 @@ module _ (reader : Layout) (file : List ℕ) (t : Trailer) (k : Known) (is : k �
 -- ## At a place
 
 module _ (reader : Layout) (file : List ℕ) (used at : ℕ) (found : Outcome) (is : found ≡ checkTrailer reader file used at) where
-  pub read-trailer : found ≡ Done → readAnswer reader file used at ≡ readTrailer reader file (trailerAt file at)
-  unfolding readAnswer
+  pub read-trailer : found ≡ Done → readAt reader file used at ≡ readTrailer reader file (trailerAt file at)
+  unfolding readAt
   read-trailer ok = unless-done nothing (readTrailer reader file (trailerAt file at)) (checkTrailer reader file used at) (sym is ∙ ok)
 
-  pub read-nothing : (number place : ℕ) → found ≡ Refused number place → readAnswer reader file used at ≡ nothing number place
-  unfolding readAnswer
+  pub read-nothing : (number place : ℕ) → found ≡ Refused number place → readAt reader file used at ≡ nothing number place
+  unfolding readAt
   read-nothing number place e = unless-refused nothing (readTrailer reader file (trailerAt file at)) (checkTrailer reader file used at) number place (sym is ∙ e)
 
-pub last-short : (reader : Layout) (file : List ℕ) (used : ℕ) → used < 16 → lastAnswer reader file used ≡ nothing 21 0
-unfolding lastAnswer
-last-short reader file used h = read-nothing reader file used (used - 16) (checkTrailer reader file used (used - 16)) refl 21 0 (trailer-short reader file used (used - 16) h)
+-- ## By its number, and at the end
+
+module _ (reader : Layout) (file : List ℕ) (used at : ℕ) where
+  pub read-none : at ≡ none → readAnswer reader file used at ≡ nothing 21 0
+  unfolding readAnswer
+  read-none e = rw (eq-eqb at none e)
+
+  pub read-there : (at ≡ none → ⊥) → readAnswer reader file used at ≡ readAt reader file used at
+  unfolding readAnswer
+  read-there some = rw (ne-eqb at none some)
+
+module _ (reader : Layout) (file : List ℕ) (used : ℕ) where
+  pub last-there : lastAnswer reader file used ≡ readAt reader file used (used - 16)
+  unfolding lastAnswer
+  last-there = refl
+
+  pub last-short : used < 16 → lastAnswer reader file used ≡ nothing 21 0
+  last-short h =
+      last-there ∙ read-nothing reader file used (used - 16) (checkTrailer reader file used (used - 16)) refl 21 0 (trailer-short reader file used (used - 16) h)
+
+  -- what holds of nothing and of what is read of a trailer holds of what `read` and `last` answer
+  module _ (P : Read → Type 0) (of-nothing : P (nothing 21 0)) where
+    pub of-read : (at : ℕ) → P (readAt reader file used at) → P (readAnswer reader file used at)
+    of-read at of-trailer = go (ℕ-discrete at none)
+      where
+        go : Dec (at ≡ none) → P (readAnswer reader file used at)
+        go (yes e) = subst P (sym (read-none reader file used at e)) of-nothing
+        go (no some) = subst P (sym (read-there reader file used at some)) of-trailer
+
+    pub of-either : ((at : ℕ) → P (readAt reader file used at)) → (at : ℕ) (r : Read)
+        → (r ≡ readAnswer reader file used at) ⊎ (r ≡ lastAnswer reader file used) → P r
+    of-either of-trailer at r either =
+        ⊎-elim (λ e. subst P (sym e) (of-read at (of-trailer at))) (λ e. subst P (sym (e ∙ last-there)) (of-trailer (used - 16))) either
 
 -- a trailer in a layout that the reader knows: what is checked of its table decides
 module _ (reader : Layout) (file : List ℕ) (t : Trailer) (layout : Layout) (knows : known reader (t .layout) ≡ Is layout) where

@@ -2,12 +2,12 @@
 use Prim.Native.Nat.{ℕ, _+_, _-_, _<_, _≤_}
 use mathlib.Core.Bool.{Bool, false, _||_}
 use mathlib.Core.List.{List}
-use mathlib.Core.Path.{ap, _∙_, _≡_}
+use mathlib.Core.Path.{ap, _≡_}
 use native.Mathlib.Omega.{arith}
-use lib.Dec.{eqb, ltb}
+use lib.Dec.{ltb}
 use lib.ListN.{length}
-use borrow.Author.Tests.{eq-eqb, eqb-false, le-ltb, lt-ltb, ltb-false, ltb-true, ne-eqb}
-use Rattle.bits.proofs.Bools.{or-left, or-left-false, or-right, or-right-false, same-test}
+use borrow.Author.Tests.{eq-eqb, le-ltb, lt-ltb, ltb-false, ltb-true, ne-eqb}
+use Rattle.bits.proofs.Bools.{or-left-false, or-right, or-right-false, same-test}
 use Rattle.tables.specs.declared.outcome.Outcome.the-variants.{Done, Refused}
 use Rattle.tables.specs.Refusals.{before, refuse}
 use Rattle.tables.proofs.Laws.Refusals.{before-first, before-second, refuse-fine}
@@ -21,12 +21,12 @@ module _ (bytes used at : ℕ) where
   -- where fewer than 16 bytes are used, no trailer is whole
   pub short-21 : used < 16 → Refused 21 0 ≡ check21 bytes used at
   unfolding check21 refuse
-  short-21 h = rw (or-left (eqb at none) (or-right (ltb bytes used) (lt-ltb used (at + 16) (omega arith))))
+  short-21 h = rw (or-right (ltb bytes used) (lt-ltb used (at + 16) (omega arith)))
 
-  pub whole-21 : 16 ≤ used → refuse (ltb bytes used || ltb (used - 16) at || eqb at none) 21 0 ≡ check21 bytes used at
+  pub whole-21 : 16 ≤ used → refuse (ltb bytes used || ltb (used - 16) at) 21 0 ≡ check21 bytes used at
   unfolding check21
   whole-21 h =
-      ap (λ (b : Bool). refuse (ltb bytes used || b || eqb at none) 21 0)
+      ap (λ (b : Bool). refuse (ltb bytes used || b) 21 0)
       (same-test (ltb (used - 16) at) (ltb used (at + 16)) (λ t. lt-ltb used (at + 16) (omega (arith, ltb-true (used - 16) at t)))
       (λ t. lt-ltb (used - 16) at (omega (arith, ltb-true used (at + 16) t))))
 
@@ -34,16 +34,14 @@ module _ (bytes used at : ℕ) where
   pub record Whole : Type 0 where
     pub fits : used ≤ bytes
     pub ends : at + 16 ≤ used
-    pub placed : at ≡ none → ⊥
 
   pub whole : check21 bytes used at ≡ Done → Whole
   unfolding check21
   whole ok =
       let tests = refuse-fine _ 21 0 ok in
       record {
-        fits = ltb-false bytes used (or-left-false (ltb bytes used) (ltb used (at + 16)) (or-left-false _ (eqb at none) tests));
-        ends = ltb-false used (at + 16) (or-right-false (ltb bytes used) (ltb used (at + 16)) (or-left-false _ (eqb at none) tests));
-        placed = eqb-false at none (or-right-false (ltb bytes used || ltb used (at + 16)) (eqb at none) tests);
+        fits = ltb-false bytes used (or-left-false (ltb bytes used) (ltb used (at + 16)) tests);
+        ends = ltb-false used (at + 16) (or-right-false (ltb bytes used) (ltb used (at + 16)) tests);
       }
 
 module _ (reader : Layout) (t : Trailer) (at : ℕ) where
@@ -81,13 +79,9 @@ trailer-short reader file used at h = rw (← short-21 (length file) used at h)
 
 -- ## The other way round
 
-pub within-21 : (bytes used at : ℕ) → used ≤ bytes → at + 16 ≤ used → check21 bytes used at ≡ refuse (eqb at none) 21 0
-unfolding check21
-within-21 bytes used at fits ends = rw (le-ltb bytes used fits, le-ltb used (at + 16) ends)
-
 pub wholly : (bytes used at : ℕ) → Whole bytes used at → check21 bytes used at ≡ Done
-unfolding refuse
-wholly bytes used at w = within-21 bytes used at (w .fits) (w .ends) ∙ rw (ne-eqb at none (w .placed))
+unfolding check21 refuse
+wholly bytes used at w = rw (le-ltb bytes used (w .fits), le-ltb used (at + 16) (w .ends))
 
 pub keeps : (reader : Layout) (t : Trailer) (at : ℕ) → Kept reader t at → check22 reader t at ≡ Done
 unfolding check22 refuse

@@ -19,14 +19,14 @@ use Rattle.chain.specs.declared.layout.Known.{Known}
 use Rattle.chain.specs.declared.layout.Known.the-variants.{Is, Unknown}
 use Rattle.chain.specs.declared.layout.Layout.{Layout}
 use Rattle.chain.specs.declared.trailer.Trailer.{Trailer}
-use Rattle.chain.specs.Answers.{nothing, passed, readAnswer, readTable, readTrailer, shown}
+use Rattle.chain.specs.Answers.{nothing, passed, readAnswer, readAt, readTable, readTrailer, shown}
 use Rattle.chain.specs.Layout.{known, width}
 use Rattle.chain.specs.Refusals.{check22, checkShown, checkTrailer}
 use Rattle.chain.specs.Table.{checkTable, numbersFrom, tableOf}
 use Rattle.chain.specs.Trailer.{misfits, none, trailerAt}
 use Rattle.chain.proofs.Laws.Bytes.{number-same}
-use Rattle.chain.proofs.Laws.Reading.{read-nothing, read-trailer}
-use Rattle.chain.proofs.Laws.Refusals.{end-of-place, trailer-kept, within-21}
+use Rattle.chain.proofs.Laws.Reading.{of-read, read-none, read-nothing, read-there, read-trailer}
+use Rattle.chain.proofs.Laws.Refusals.{end-of-place, trailer-kept, wholly}
 
 -- ## By the bytes up to the trailer's end
 
@@ -58,13 +58,14 @@ module _ (f g : List ℕ) (at : ℕ) (same : (i : ℕ) → i < at + 16 → getD 
     checks-same : checkTrailer reader f used at ≡ checkTrailer reader g end at
     unfolding checkTrailer
     checks-same =
-        ap₂ before (within-21 (length f) used at fits there ∙ sym (within-21 (length g) end at room still)) (ap (λ (t : Trailer). check22 reader t at) trailer-same)
+        ap₂ before (wholly (length f) used at (record { fits = fits; ends = there }) ∙ sym (wholly (length g) end at (record { fits = room; ends = still })))
+        (ap (λ (t : Trailer). check22 reader t at) trailer-same)
 
-    pub read-same : readAnswer reader f used at ≡ readAnswer reader g end at
+    there-same : readAt reader f used at ≡ readAt reader g end at
     unfolding readTrailer
-    read-same = go (checkTrailer reader f used at) refl
+    there-same = go (checkTrailer reader f used at) refl
       where
-        go : (o : Outcome) → checkTrailer reader f used at ≡ o → readAnswer reader f used at ≡ readAnswer reader g end at
+        go : (o : Outcome) → checkTrailer reader f used at ≡ o → readAt reader f used at ≡ readAt reader g end at
         go Done e =
             let t = trailerAt f at in
             read-trailer reader f used at Done (sym e) refl
@@ -74,6 +75,13 @@ module _ (f g : List ℕ) (at : ℕ) (same : (i : ℕ) → i < at + 16 → getD 
         go (Refused number place) e =
             read-nothing reader f used at (Refused number place) (sym e) number place refl
             ∙ sym (read-nothing reader g end at (Refused number place) (sym e ∙ checks-same) number place refl)
+
+    pub read-same : readAnswer reader f used at ≡ readAnswer reader g end at
+    read-same = go (ℕ-discrete at none)
+      where
+        go : Dec (at ≡ none) → readAnswer reader f used at ≡ readAnswer reader g end at
+        go (yes e) = read-none reader f used at e ∙ sym (read-none reader g end at e)
+        go (no some) = read-there reader f used at some ∙ there-same ∙ sym (read-there reader g end at some)
 
 -- ## Back
 
@@ -88,7 +96,7 @@ table-told k file t = go (checkShown k file t)
 
 module _ (reader : Layout) (file : List ℕ) (used at : ℕ) where
   pub read-told : checkTrailer reader file used at ≡ Done
-      → (readAnswer reader file used at .layout ≡ trailerAt file at .layout) × (readAnswer reader file used at .before ≡ trailerAt file at .before)
+      → (readAt reader file used at .layout ≡ trailerAt file at .layout) × (readAt reader file used at .before ≡ trailerAt file at .before)
   unfolding readTrailer
   read-told ok =
       let t = trailerAt file at in
@@ -96,16 +104,20 @@ module _ (reader : Layout) (file : List ℕ) (used at : ℕ) where
       let told = table-told (known reader (t .layout)) file t in
       (ap (λ (r : Read). r .layout) is ∙ told .0, ap (λ (r : Read). r .before) is ∙ told .1)
 
-  pub goes-back : (readAnswer reader file used at .before ≡ none) ⊎ (readAnswer reader file used at .before + 16 ≤ at)
+  pub there-back : (readAt reader file used at .before ≡ none) ⊎ (readAt reader file used at .before + 16 ≤ at)
   unfolding nothing
-  goes-back = go (checkTrailer reader file used at) refl
+  there-back = go (checkTrailer reader file used at) refl
     where
-      go : (o : Outcome) → checkTrailer reader file used at ≡ o → (readAnswer reader file used at .before ≡ none) ⊎ (readAnswer reader file used at .before + 16 ≤ at)
+      go : (o : Outcome) → checkTrailer reader file used at ≡ o → (readAt reader file used at .before ≡ none) ⊎ (readAt reader file used at .before + 16 ≤ at)
       go (Refused number place) e = inl (ap (λ (r : Read). r .before) (read-nothing reader file used at (Refused number place) (sym e) number place refl))
       go Done e = which (ℕ-discrete (trailerAt file at .before) none)
         where
-          which : Dec (trailerAt file at .before ≡ none) → (readAnswer reader file used at .before ≡ none) ⊎ (readAnswer reader file used at .before + 16 ≤ at)
+          which : Dec (trailerAt file at .before ≡ none) → (readAt reader file used at .before ≡ none) ⊎ (readAt reader file used at .before + 16 ≤ at)
           which (yes first) = inl (read-told e .1 ∙ first)
           which (no later) =
               let w = trailer-kept reader file used at e in
               inr (omega (arith, read-told e .1, end-of-place (trailerAt file at .before) later, w .behind, w .within))
+
+  pub goes-back : (readAnswer reader file used at .before ≡ none) ⊎ (readAnswer reader file used at .before + 16 ≤ at)
+  unfolding nothing
+  goes-back = of-read reader file used (λ r. (r .before ≡ none) ⊎ (r .before + 16 ≤ at)) (inl refl) at there-back

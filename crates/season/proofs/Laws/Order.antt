@@ -27,7 +27,7 @@ use Rattle.season.specs.Show.{rowLine, rowLines, showing}
 use Rattle.season.proofs.Laws.Own.{add-done}
 use Rattle.season.proofs.Laws.Reports.{Joins, assoc-left, assoc-right, eighteen-or-done, join-done, join-refused, joined-assoc, joined-comm, joined-row, joins, joins-comm, joins-done, report-same, rows-same}
 use Rattle.season.proofs.Laws.Rows.{Tidy, join-none, join-tidy}
-use Rattle.season.proofs.Laws.Season.{then-next}
+use Rattle.season.proofs.Laws.Season.{then-next, told-done}
 
 -- done and refused are never equal
 never : {A : Type 0} {o : Outcome} {number place : ℕ} → o ≡ Done → o ≡ Refused number place → A
@@ -67,7 +67,7 @@ both-done x y r s p q e = (
 )
 
 both-refused : (x y : Reported) (number place : ℕ) → x .outcome ≡ Refused number place → y .outcome ≡ Refused number place → Alike x y
-both-refused x y n p e f = (e ∙ sym f, λ ok. never ok e)
+both-refused x y n p e f = (e ∙ sym f, λ ok. never (told-done (x .outcome) .0 ok) e)
 
 -- ## Either way round
 

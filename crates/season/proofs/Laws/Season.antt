@@ -1,7 +1,8 @@
 -- Laws of a season: a report that was made by these calls is the one report over its runs, and the calls are done exactly where the totals fit.
 use Prim.Native.Nat.{ℕ, zero, suc, _<_, _≤_}
 use mathlib.Core.Bool.{true}
-use mathlib.Core.List.{List, [], _∷_, _++_, append-assoc, append-nil, List·Permᴰ, List·Permᴰ·nil, List·Permᴰ·cons, List·Permᴰ·swap, List·Permᴰ·trans}
+use mathlib.Core.List.{List, [], _∷_, _++_, append-assoc, append-nil, List·Memᴰ, List·Memᴰ·head, List·Memᴰ·tail, List·Permᴰ, List·Permᴰ·nil, List·Permᴰ·cons, List·Permᴰ·swap, List·Permᴰ·trans}
+use mathlib.Core.Logic.{_↔_}
 use mathlib.Core.Path.{ap, ap₂, refl, subst, sym, _∙_, _≡_}
 use native.Mathlib.Omega.{arith}
 use lib.Dec.{eqb, ltb}
@@ -11,8 +12,10 @@ use Rattle.bits.proofs.Bools.{by-cond}
 use Rattle.tables.specs.declared.outcome.Outcome.{Outcome}
 use Rattle.tables.specs.declared.outcome.Outcome.the-variants.{Done, Refused}
 use Rattle.tables.specs.Refusals.{before, checkTasks, unless}
+use Rattle.tables.specs.Said.{done, outcomeSaid}
 use Rattle.tables.specs.Tables.{Lists, jobCount, lists, taskCount, taskOf}
 use Rattle.tables.proofs.Laws.Refusals.{before-first, before-second}
+use Rattle.tables.proofs.Laws.Said.{outcome-said}
 use Rattle.zsrm.specs.declared.record.Record.{Record}
 use Rattle.season.specs.declared.report.Report.{Report}
 use Rattle.season.specs.declared.report.Reported.{Reported}
@@ -20,10 +23,15 @@ use Rattle.season.specs.declared.report.Row.{Row}
 use Rattle.season.specs.Own.{addAnswer, checkRun, jobRowAt, ownReport, ownRow, ownUpTo}
 use Rattle.season.specs.Reports.{check18, emptyAnswer, emptyReport, joinAnswer, joined, joinedRow, reported, rowAt, rowBelow, rowCount, rowsOf}
 use Rattle.season.specs.Rows.{fits, joinRow, noJobs}
-use Rattle.season.specs.Season.{AllAccepted, Fitting, Run, Season, addAll, added, andThen, begun, givenOf, merged, reportOver, rowIn, runsOf, seasonAnswer, totalRow}
+use Rattle.season.specs.Season.{Accepted, AllAccepted, Fitting, Run, Season, addAll, added, andThen, begun, givenOf, merged, reportOver, rowIn, runsOf, seasonAnswer, totalRow}
 use Rattle.season.proofs.Laws.Own.{add-done}
 use Rattle.season.proofs.Laws.Reports.{Joins, few-tasks, join-done, joins, joins-done, report-same, reported-done, row-below, row-of, rows-same}
 use Rattle.season.proofs.Laws.Rows.{Tidy, fits-left, fits-right, join-assoc, join-comm, join-none, join-tidy, none-join}
+
+-- done, as it is said
+pub told-done : (o : Outcome) → outcomeSaid o ≡ done ↔ o ≡ Done
+unfolding outcomeSaid
+told-done o = (outcome-said o Done, ap outcomeSaid)
 
 -- ## Rows
 
@@ -82,12 +90,19 @@ module _ (tasks : List ℕ) where
 
   all-order : {xs ys : List Run} → List·Permᴰ xs ys → AllAccepted tasks xs → AllAccepted tasks ys
   all-order List·Permᴰ·nil w = tt
-  all-order (List·Permᴰ·cons e d) w = (subst (λ (x : Run). checkRun (givenOf tasks x) (x .returned) ≡ Done) e (w .0), all-order d (w .1))
+  all-order (List·Permᴰ·cons e d) w = (subst (Accepted tasks) e (w .0), all-order d (w .1))
   all-order (List·Permᴰ·swap e f) w = (
-    subst (λ (x : Run). checkRun (givenOf tasks x) (x .returned) ≡ Done) f (w .1 .0),
-    (subst (λ (x : Run). checkRun (givenOf tasks x) (x .returned) ≡ Done) e (w .0), w .1 .1),
+    subst (Accepted tasks) f (w .1 .0),
+    (subst (Accepted tasks) e (w .0), w .1 .1),
   )
   all-order (List·Permᴰ·trans d e) w = all-order e (all-order d w)
+
+  pub each-accepted : {run : Run} {runs : List Run} → List·Memᴰ run runs → AllAccepted tasks runs → Accepted tasks run
+  each-accepted (List·Memᴰ·head e) w = subst (Accepted tasks) (sym e) (w .0)
+  each-accepted (List·Memᴰ·tail m) w = each-accepted m (w .1)
+
+  pub fitting-few : (runs : List Run) → Fitting tasks runs → taskCount tasks ≤ 16
+  fitting-few runs w = few-tasks tasks (told-done (checkTasks tasks) .0 (w .table))
 
   pub fitting-order : {xs ys : List Run} → List·Permᴰ xs ys → Fitting tasks xs → Fitting tasks ys
   fitting-order d w =
@@ -148,6 +163,9 @@ module _ (tasks : List ℕ) (few : taskCount tasks ≤ 16) where
         row = λ k l. row-of (taskCount tasks) (λ i. totalRow tasks i runs) (taskCount tasks) k (omega arith) ∙ row-below (taskCount tasks) (λ i. totalRow tasks i runs) k l;
       }
 
+  pub over-row : (runs : List Run) (k : ℕ) → k < taskCount tasks → rowAt (reportOver tasks runs) k ≡ totalRow tasks k runs
+  over-row runs = over-holds runs .row
+
   own-holds : (run : Run) → Holds (taskCount tasks) (λ k. totalRow tasks k (run ∷ [])) (ownReport (lists tasks (run .jobs)) (run .returned))
   unfolding ownReport ownUpTo rowAt
   own-holds run =
@@ -195,17 +213,17 @@ module _ (tasks : List ℕ) where
   pub season-made : (s : Season) → Fitting tasks (runsOf s) → seasonAnswer tasks s ≡ record { outcome = Done; report = reportOver tasks (runsOf s) }
   unfolding seasonAnswer runsOf emptyAnswer
   season-made begun w =
-      reported-done (emptyReport 0) (emptyReport (taskCount tasks)) (checkTasks tasks) (w .table)
+      reported-done (emptyReport 0) (emptyReport (taskCount tasks)) (checkTasks tasks) (told-done (checkTasks tasks) .0 (w .table))
       ∙ ap (λ (r : Report). let y : Reported = record { outcome = Done; report = r } in y) (empty-over tasks)
   season-made (added s run) w =
-      let few = few-tasks tasks (w .table) in
+      let few = fitting-few tasks (runsOf s ++ (run ∷ [])) w in
       let before = reportOver tasks (runsOf s) in
       let own = ownReport (lists tasks (run .jobs)) (run .returned) in
       then-next (seasonAnswer tasks s) (λ r. addAnswer r (givenOf tasks run) (run .returned)) before (season-made s (fitting-left tasks (runsOf s) (run ∷ []) w))
-      ∙ sym (add-done (givenOf tasks run) (run .returned) before (joinAnswer before own) (all-right tasks (runsOf s) (run ∷ []) (w .each) .0) refl)
+      ∙ sym (add-done (givenOf tasks run) (run .returned) before (joinAnswer before own) (told-done _ .0 (all-right tasks (runsOf s) (run ∷ []) (w .each) .0)) refl)
       ∙ over-joined tasks few (runsOf s) (run ∷ []) before own (over-holds tasks few (runsOf s)) (own-holds tasks few run) w
   season-made (merged s t) w =
-      let few = few-tasks tasks (w .table) in
+      let few = fitting-few tasks (runsOf s ++ runsOf t) w in
       let a = reportOver tasks (runsOf s) in
       let b = reportOver tasks (runsOf t) in
       then-next (seasonAnswer tasks s) (λ x. andThen (seasonAnswer tasks t) (λ y. joinAnswer x y)) a (season-made s (fitting-left tasks (runsOf s) (runsOf t) w))
@@ -214,18 +232,18 @@ module _ (tasks : List ℕ) where
 
   pub season-fitting : (s : Season) → seasonAnswer tasks s .outcome ≡ Done → Fitting tasks (runsOf s)
   unfolding seasonAnswer runsOf emptyAnswer reported addAnswer joinAnswer totalRow fits
-  season-fitting begun ok = record { table = ok; each = tt; totals = λ k l. refl }
+  season-fitting begun ok = record { table = told-done (checkTasks tasks) .1 ok; each = tt; totals = λ k l. refl }
   season-fitting (added s run) ok =
       let next : Report → Reported = λ r. addAnswer r (givenOf tasks run) (run .returned) in
       let w = season-fitting s (then-first (seasonAnswer tasks s) next ok) in
-      let few = few-tasks tasks (w .table) in
+      let few = fitting-few tasks (runsOf s) w in
       let a = reportOver tasks (runsOf s) in
       let own = ownReport (lists tasks (run .jobs)) (run .returned) in
       let last : before (checkRun (givenOf tasks run) (run .returned)) (check18 a own) ≡ Done
       = ap (λ (x : Reported). x .outcome) (sym (then-next (seasonAnswer tasks s) next a (season-made s w))) ∙ ok in
       record {
         table = w .table;
-        each = all-append tasks (runsOf s) (run ∷ []) (w .each) (before-first (checkRun (givenOf tasks run) (run .returned)) _ last, tt);
+        each = all-append tasks (runsOf s) (run ∷ []) (w .each) (told-done _ .1 (before-first (checkRun (givenOf tasks run) (run .returned)) _ last), tt);
         totals = over-fits tasks few (runsOf s) (run ∷ []) a own (over-holds tasks few (runsOf s)) (own-holds tasks few run) (before-second (checkRun (givenOf tasks run) (run .returned)) _ last);
       }
   season-fitting (merged s t) ok =
@@ -235,7 +253,7 @@ module _ (tasks : List ℕ) where
       let rest : andThen (seasonAnswer tasks t) (λ y. joinAnswer a y) .outcome ≡ Done
       = ap (λ (x : Reported). x .outcome) (sym (then-next (seasonAnswer tasks s) first a (season-made s v))) ∙ ok in
       let w = season-fitting t (then-first (seasonAnswer tasks t) (λ y. joinAnswer a y) rest) in
-      let few = few-tasks tasks (v .table) in
+      let few = fitting-few tasks (runsOf s) v in
       let b = reportOver tasks (runsOf t) in
       let last : check18 a b ≡ Done = ap (λ (x : Reported). x .outcome) (sym (then-next (seasonAnswer tasks t) (λ y. joinAnswer a y) b (season-made t w))) ∙ rest in
       record {

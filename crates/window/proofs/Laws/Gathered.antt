@@ -14,11 +14,11 @@ use Rattle.bits.proofs.Below.{last-or-below, least-found, least-none, least-sam
 use Rattle.bits.proofs.Bools.{either, same-test}
 use Rattle.tables.specs.Tables.{taskOf}
 use Rattle.zsrm.specs.declared.answers.Verdict.{Verdict}
-use Rattle.zsrm.specs.Verdict.{missed}
+use Rattle.zsrm.specs.Verdict.{isOpen, missed}
 use Rattle.window.specs.declared.jobs.Gathered.{Gathered}
 use Rattle.window.specs.declared.windows.Windows.the-variants.{Fails, Passes}
 use Rattle.window.specs.Code.{GatheredAs, Rising, Room, firstOver, missesBetween, toldOf, withJob}
-use Rattle.window.specs.Windows.{fails, firstFailing, howMany, isOpen, jobsBelow, judged, misses, opens, window, windowCount}
+use Rattle.window.specs.Windows.{fails, firstFailing, howMany, jobsBelow, judged, misses, opens, window, windowCount}
 use Rattle.window.proofs.Laws.Counts.{many-most, many-one-more, misses-rise, misses-window}
 use Rattle.window.proofs.Laws.Jobs.{below-more}
 use Rattle.window.proofs.Laws.Windows.{counted}

@@ -1,6 +1,6 @@
 -- What an answer that is no refusal says of the checks, and what acceptance says of the lists.
 use Prim.Native.Nat.{_+_, _<_, ℕ, _≤_}
-use mathlib.Core.Bool.{true, cond}
+use mathlib.Core.Bool.{Bool, true, cond}
 use mathlib.Core.List.{List}
 use mathlib.Core.Logic.{inl, inr, _↔_, _⊎_}
 use mathlib.Core.Path.{ap, ap₂, refl, sym, _∙_, _≡_}
@@ -15,17 +15,17 @@ use Rattle.zsrm.specs.declared.record.Record.{Record}
 use Rattle.zsrm.specs.declared.tie.Tie.{Tie}
 use Rattle.zsrm.specs.declared.record.Standing.the-variants.{Finished}
 use Rattle.zsrm.specs.Answers.{checkSchedule, checkStep, checkVerdict, claimAnswer, ran, runAnswer, runSchedule, verdictAnswer}
-use Rattle.tables.specs.Refusals.{unless, before, check10, check13, check9, checkLists, refuse}
+use Rattle.tables.specs.Refusals.{unless, before, check10, check13, check2, check3, check4, check5, check6, check7, check8, check9, checkJobs, checkLists, checkTasks, refuse}
 use Rattle.zsrm.specs.Said.{claimSaid}
 use Rattle.zsrm.specs.Legal.{claim, isLegal, legalFrom, legalLength}
 use Rattle.zsrm.specs.Record.{consistent, fresh, standingAt, check11, check12}
 use Rattle.zsrm.specs.Run.{runEntries, runRecord, entriesBy, finalBy}
 use Rattle.zsrm.specs.Given.{Given}
-use Rattle.tables.specs.Tables.{deadlineInstant, jobCount, Lists, idle}
+use Rattle.tables.specs.Tables.{deadlineInstant, jobCount, Lists, idle, taskCount}
 use Rattle.zsrm.specs.Verdict.{verdict}
 use Rattle.zsrm.proofs.Laws.Consistent.{consistent-tick, fresh-consistent}
 use Rattle.zsrm.proofs.Laws.Places.{tick-fresh}
-use Rattle.tables.proofs.Laws.Refusals.{before-last, before-first, before-second, refuse-fine, unless-done, unless-refused}
+use Rattle.tables.proofs.Laws.Refusals.{Numbered, before-last, before-first, before-second, numbered-ascending, numbered-before, numbered-refuse, refuse-fine, unless-done, unless-refused}
 use Rattle.zsrm.proofs.Laws.Run.{length-run, our-run-legal}
 use Rattle.zsrm.proofs.Laws.Said.{claim-said}
 use Rattle.zsrm.proofs.Laws.Replay.{AllLegal}
@@ -48,6 +48,30 @@ accepted l h n ok =
     let nine = refuse-fine _ _ _ (before-first (check9 h) _ rest) in
     let ten = refuse-fine _ _ _ (before-second (check9 h) _ rest) in
     record { lists = before-first (checkLists l) _ ok; bounded = ltb-false 16384 h nine; whole = eqb-true n h (not-false (eqb n h) ten) }
+
+-- the lists are refused with 2 to 8
+module _ (P : ℕ → Type 0) (among : (number : ℕ) → 2 ≤ number → number ≤ 8 → P number) where
+  one-numbered : (b : Bool) (number place : ℕ) → 2 ≤ number → number ≤ 8 → Numbered P (refuse b number place)
+  one-numbered b number place least most = numbered-refuse P b number place (among number least most)
+
+  tasks-numbered : (tasks : List ℕ) → Numbered P (checkTasks tasks)
+  unfolding checkTasks check2 check3 check4
+  tasks-numbered tasks =
+      numbered-before P (check2 tasks) _ (one-numbered _ 2 0 (omega arith) (omega arith))
+      (numbered-ascending P _ (taskCount tasks) (λ k.
+      numbered-before P (check3 tasks k) (check4 tasks k) (one-numbered _ 3 k (omega arith) (omega arith)) (one-numbered _ 4 k (omega arith) (omega arith))))
+
+  jobs-numbered : (tasks jobs : List ℕ) → Numbered P (checkJobs tasks jobs)
+  unfolding checkJobs check5 check6 check7 check8
+  jobs-numbered tasks jobs =
+      numbered-before P (check5 jobs) _ (one-numbered _ 5 0 (omega arith) (omega arith))
+      (numbered-ascending P _ (jobCount jobs) (λ j.
+      numbered-before P (check6 tasks jobs j) _ (one-numbered _ 6 j (omega arith) (omega arith))
+      (numbered-before P (check7 jobs j) (check8 tasks jobs j) (one-numbered _ 7 j (omega arith) (omega arith)) (one-numbered _ 8 j (omega arith) (omega arith)))))
+
+  pub lists-numbered : (l : Lists) → Numbered P (checkLists l)
+  unfolding checkLists
+  lists-numbered l = numbered-before P (checkTasks (l .tasks)) _ (tasks-numbered (l .tasks)) (jobs-numbered (l .tasks) (l .jobs))
 
 -- a whole schedule is legal exactly when each of its entries is
 pub whole-legal : (g : Given) (schedule : List ℕ) → claim g schedule ≡ claims.Legal ↔ AllLegal g (fresh (g .lists .jobs)) idle schedule

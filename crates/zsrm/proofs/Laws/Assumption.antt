@@ -19,13 +19,13 @@ use Rattle.zsrm.specs.declared.record.Standing.{Standing}
 use Rattle.zsrm.specs.declared.record.Standing.the-variants.{Ended, Finished, NotArrived, Unfinished}
 use Rattle.zsrm.specs.Given.{Given}
 use Rattle.zsrm.specs.Legal.{candidateOrIdle}
-use Rattle.zsrm.specs.Record.{consistent, doneAt, fresh, opening, standingAt}
+use Rattle.zsrm.specs.Record.{consistent, doneAt, fresh, standingAt}
 use Rattle.zsrm.specs.Run.{recordBefore, replayed}
 use Rattle.zsrm.specs.Tick.{advanced, ends, over, someJob, standingAfter}
 use Rattle.zsrm.specs.Verdict.{breaks, isOutside, outsider}
 use Rattle.tables.specs.Tables.{execution, idle, jobCount, jobNominal, Lists}
 use Rattle.zsrm.proofs.Laws.Consistent.{Sound, advanced-consistent, fresh-consistent, sound-at}
-use Rattle.zsrm.proofs.Laws.Places.{opens, standing-advanced, standing-fresh, tick-fresh}
+use Rattle.zsrm.proofs.Laws.Places.{opening-unended, standing-advanced, standing-fresh, tick-fresh}
 use Rattle.zsrm.proofs.Laws.Replay.{AllLegal, kept-at, legal-may, replayed-is}
 use Rattle.zsrm.proofs.Laws.Tick.{done-most, goes-on, past-exactly}
 use Rattle.zsrm.proofs.Readings.{Breaks, FirstOutside, SomeJob, alive-reads, apart, ends-reads, outside-reads, over-reads, within-reads}
@@ -82,11 +82,6 @@ module _ (g : Given) (few : jobCount (g .lists .jobs) ≤ 64) where
     ends-broken : (j : ℕ) → ends g r e j ≡ true → SomeJob g (Breaks g j)
     ends-broken j h = let w = ends-reads g r e j .0 h .1 in (w .0, w .1, (w .2 .1, over-long (w .0) (w .1) (w .2 .0)))
 
-  -- a place at which nothing has run is not ended
-  opening-unended : (t j e : ℕ) → opening (g .lists .jobs) t j ≡ Ended e → SomeJob g (Breaks g j)
-  opening-unended t j e =
-      opens (g .lists .jobs) t j (λ s. s ≡ Ended e → SomeJob g (Breaks g j)) (λ l a c q. apart (cc)) (λ l a c q. apart (cc)) (λ w q. apart (cc))
-
   -- the invariant: consistent, and for every job that is ended some job breaks the assumption
   record Explained (r : Record) : Type 0 where
     sound : consistent g r ≡ true
@@ -94,7 +89,7 @@ module _ (g : Given) (few : jobCount (g .lists .jobs) ≤ 64) where
 
   fresh-explained : Explained (fresh (g .lists .jobs))
   fresh-explained =
-      record { sound = fresh-consistent g; broken = λ j e l q. opening-unended 0 j e (sym (standing-fresh (g .lists .jobs) j l) ∙ q) }
+      record { sound = fresh-consistent g; broken = λ j e l q. absurd (opening-unended (g .lists .jobs) 0 j e (sym (standing-fresh (g .lists .jobs) j l) ∙ q)) }
 
   advanced-explained : (r : Record) (e : ℕ) → r .tick < 16384 → candidateOrIdle g r e ≡ true → Explained r → Explained (advanced g r e)
   unfolding standingAfter
@@ -105,7 +100,7 @@ module _ (g : Given) (few : jobCount (g .lists .jobs) ≤ 64) where
       }
     where
       go : (j x : ℕ) → j < 64 → (s : Standing) → standingAt r j ≡ s → standingAfter g r e j s ≡ Ended x → SomeJob g (Breaks g j)
-      go j x l NotArrived p q = opening-unended (suc (r .tick)) j x q
+      go j x l NotArrived p q = absurd (opening-unended (g .lists .jobs) (suc (r .tick)) j x q)
       go j x l Unfinished p q =
           goes-on g r e (λ s. s ≡ Ended x → SomeJob g (Breaks g j)) j (λ y z a. apart (cc)) (λ y z a. ends-broken r (h .sound) e j z) (λ y z a. apart (cc)) q
       go j x l (Finished f) p q = apart (cc)

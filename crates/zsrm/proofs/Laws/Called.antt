@@ -7,7 +7,7 @@ use mathlib.Core.Path.{ap, ap₂, refl, subst, sym, _∙_, _≡_}
 use native.Mathlib.Omega.{arith}
 use lib.Dec.{eqb, ltb}
 use lib.ListN.{length, take}
-use borrow.Author.Tests.{eqb-true, ltb-false, ltb-true}
+use borrow.Author.Tests.{eq-eqb, eqb-true, le-ltb, ltb-false, ltb-true}
 use Rattle.bits.proofs.Bools.{either}
 use Rattle.tables.specs.declared.outcome.Outcome.{Outcome}
 use Rattle.tables.specs.declared.outcome.Outcome.the-variants.{Done, Refused}
@@ -20,15 +20,16 @@ use Rattle.zsrm.specs.declared.answers.Claim.{Claim}
 use Rattle.zsrm.specs.declared.tie.Tie.the-variants.{Stay}
 use Rattle.zsrm.specs.declared.c.Called.{Called}
 use Rattle.zsrm.specs.declared.mode.Mode.{Mode}
-use Rattle.zsrm.specs.Answers.{checkSchedule, runSchedule, claimAnswer}
+use Rattle.zsrm.specs.Answers.{checkSchedule, runAnswer, runSchedule, claimAnswer}
 use Rattle.zsrm.specs.Bytes.{bytes2, check1, checkBytes, claimResult, givenBytes, modeOf, numbers2, numbers4, packedClaim, packedOutcome, runBytes, runResult, uneven}
 use Rattle.zsrm.specs.Code.Called.{called, checkCount, checkNumbers, decoded}
 use Rattle.zsrm.specs.Given.{Given, given}
 use Rattle.zsrm.specs.Legal.{claim}
 use Rattle.zsrm.specs.Run.{runEntries}
-use Rattle.zsrm.proofs.Laws.Answers.{accepted, run-given, whole-legal}
+use Rattle.zsrm.proofs.Laws.Answers.{accepted, run-given, run-outcome, whole-legal}
 use Rattle.zsrm.proofs.Laws.Bytes.{decoded-front, entries-back, length-bytes2, length-decoded, length-numbers2, length-numbers4}
 use Rattle.zsrm.proofs.Laws.Run.{length-run, our-run-legal}
+use Rattle.zsrm.proofs.Laws.Verdicts.{before-assoc}
 use Rattle.zsrm.proofs.Readings.{claim-not-refused}
 use Rattle.zsrm.proofs.Laws.Said.{claim-said}
 use Rattle.zsrm.specs.Said.{claimSaid}
@@ -116,6 +117,14 @@ module _ (mode : ℕ) (tasks jobs : List ℕ) (horizon count : ℕ) where
   refusals-small : Small (checkBytes mode tasks jobs horizon count)
   unfolding checkBytes check1 uneven check9 check10
   refusals-small = search (small, small-tasks, small-jobs) depth 12
+
+  -- of a mode 0 or 1 and of whole byte counts the checks of the bytes are those of the lists that they spell
+  bytes-checked : mode ≤ 1 → length tasks % 4 ≡ 0 → length jobs % 4 ≡ 0 → count % 2 ≡ 0
+      → checkBytes mode tasks jobs horizon count ≡ checkSchedule (givenBytes mode tasks jobs .lists) horizon (count / 2)
+  unfolding checkBytes check1 uneven givenBytes checkSchedule checkLists refuse before
+  bytes-checked known whole-tasks whole-jobs whole-entries =
+      rw (le-ltb 1 mode known, eq-eqb (length tasks % 4) 0 whole-tasks, eq-eqb (length jobs % 4) 0 whole-jobs, eq-eqb (count % 2) 0 whole-entries)
+      (sym (before-assoc (checkTasks (numbers4 tasks)) (checkJobs (numbers4 tasks) (numbers4 jobs)) (before (check9 horizon) (check10 (count / 2) horizon))))
 
 -- packed answers that are no refusals are told apart
 unpacked : (c d : Claim) → ((number place : ℕ) → c ≡ claims.Refused number place → ⊥) → ((number place : ℕ) → d ≡ claims.Refused number place → ⊥) → packedClaim c ≡ packedClaim d → c ≡ d
@@ -242,3 +251,16 @@ module _ (mode : ℕ) (tasks jobs : List ℕ) (horizon : ℕ) (schedule : List �
       ↔ (outcomeSaid (checkBytes mode tasks jobs horizon (length schedule)) ≡ outcome.done) × (claimSaid (claimAnswer (givenBytes mode tasks jobs) horizon (numbers2 schedule)) ≡ say.notLegal t)
   unfolding packedClaim claimSaid
   c-not-legal-exactly t = c-claim-exactly (claims.NotLegal t) (λ n p e. let z : _≡_ {A = ℕ} 0 1 = cc in omega arith) (λ n p s e. omega (arith, s))
+
+  -- of a mode 0 or 1 and of whole byte counts the results are the answers on the lists that the bytes spell, packed, refusals too
+  module _ (known : mode ≤ 1) (whole-tasks : length tasks % 4 ≡ 0) (whole-jobs : length jobs % 4 ≡ 0) (whole-entries : length schedule % 2 ≡ 0) where
+    same-checks : checkBytes mode tasks jobs horizon (length schedule) ≡ checkSchedule (givenBytes mode tasks jobs .lists) horizon (length (numbers2 schedule))
+    same-checks = rw length-numbers2 (bytes-checked mode tasks jobs horizon (length schedule) known whole-tasks whole-jobs whole-entries)
+
+    pub c-run-is-run : runResult mode tasks jobs horizon schedule ≡ packedOutcome (runAnswer (givenBytes mode tasks jobs) Stay horizon (numbers2 schedule) .outcome)
+    unfolding runResult
+    c-run-is-run = ap packedOutcome (same-checks ∙ sym (run-outcome (givenBytes mode tasks jobs) Stay horizon (numbers2 schedule)))
+
+    pub c-claim-is-claim : claimResult mode tasks jobs horizon schedule ≡ packedClaim (claimAnswer (givenBytes mode tasks jobs) horizon (numbers2 schedule))
+    unfolding claimResult claimAnswer
+    c-claim-is-claim = ap (λ (o : Outcome). packedClaim (unless o claims.Refused (claim (givenBytes mode tasks jobs) (numbers2 schedule)))) same-checks

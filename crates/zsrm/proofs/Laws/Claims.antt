@@ -136,7 +136,7 @@ module _ (g : Given) (schedule : List ℕ) where
       ap (legalFrom g r last) (at t e b q) ∙ legal-goes-on g r last e (drop (suc t) schedule) h in
       record {
         legal = rw (add-one, n) (omega (arith, w .legal, goes));
-        here = rw add-one (n ∙ ap₂ (advanced g) (w .here) q ∙ sym (record-more g schedule t b));
+        here = rw add-one (n ∙ ap₂ (advanced g) (w .here) q ∙ sym (record-more g schedule t 0 b));
         sound = rw n (advanced-consistent g r e (omega (arith, w .time)) (legal-may g r last e h) (w .sound));
         time = rw (add-one, n) (tick-advanced g r e ∙ ap suc (w .time));
       }

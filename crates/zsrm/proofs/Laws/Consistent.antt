@@ -2,7 +2,7 @@
 use Prim.Native.Nat.{_+_, _<_, suc, ℕ, _≤_}
 use mathlib.Core.Bool.{false, true}
 use mathlib.Core.List.{List}
-use mathlib.Core.Path.{ap, refl, _∙_, _≡_}
+use mathlib.Core.Path.{ap, refl, sym, _∙_, _≡_}
 use mathlib.Core.Logic.{Iff·trans, inl, inr, _↔_, _≢_, _⊎_, ⊎-elim}
 use native.Mathlib.Decide.{ℕ-discrete}
 use native.Mathlib.Omega.{arith}
@@ -19,7 +19,7 @@ use Rattle.zsrm.specs.Tick.{advanced, alive, doneAfter, finishes, placeA
 use Rattle.zsrm.proofs.Laws.Places.{done-advanced, done-fresh, place-advanced, place-fresh, previous-advanced, previous-fresh, standing-advanced, standing-fresh, tick-advanced, tick-fresh, away-reads, opens}
 use Rattle.bits.proofs.Readings.{and-reads, eq-reads, every-reads, le-reads, lt-reads, or-reads}
 use Rattle.zsrm.proofs.Laws.Tick.{done-dead, done-idle, done-most, ends-by, goes-on, none-raised, one-raised, runs-or-idle, se-reads, finishing, is-SE}
-use Rattle.zsrm.specs.declared.mode.Mode.the-variants.{SE}
+use Rattle.zsrm.specs.declared.mode.Mode.the-variants.{S, SE}
 
 -- "It is consistent when", of the place j at tick t, by its standing
 module _ (g : Given) (t j done : ℕ) where
@@ -250,6 +250,14 @@ module _ (g : Given) (r : Record) (ok : consistent g r ≡ true) where
       go Unfinished q w = refl
       go (Finished f) q w = absurd (nf f q)
       go (Ended e) q w = absurd (ne e q)
+
+  -- in mode S nothing is ended
+  pub unended : g .mode ≡ S → (j e : ℕ) → j < 64 → standingAt r j ≡ Ended e → ⊥
+  unended s j e l q =
+      let w = rw q at (sound-at j l) in
+      let both : S ≡ SE = sym s ∙ w .se in
+      let z : _≡_ {A = ℕ} 0 1 = cc in
+      omega arith
 
   -- a place beyond the jobs is not arrived
   pub beyond-waits : (j : ℕ) → jobCount (g .lists .jobs) ≤ j → j < 64 → standingAt r j ≡ NotArrived

@@ -2,7 +2,7 @@
 use lib.ListN.{length}
 use Prim.Native.Nat.{_+_, _<_, ℕ, _≤_}
 use mathlib.Core.List.{List}
-use mathlib.Core.Logic.{Iff·trans, _↔_}
+use mathlib.Core.Logic.{Iff·trans, inl, inr, _↔_, _⊎_, ⊎-elim}
 use mathlib.Core.Path.{ap, refl, sym, _∙_, _≡_}
 use native.Mathlib.Omega.{arith}
 use Rattle.zsrm.specs.declared.answers.Stepped.{Stepped}
@@ -20,7 +20,8 @@ use Rattle.zsrm.specs.Mend.{mend}
 use Rattle.zsrm.specs.Record.{blank, fresh, standingAt}
 use Rattle.zsrm.specs.Said.{claimSaid, mendedSaid, verdictSaid, witnessSaid, standingSaid}
 use Rattle.tables.specs.Said.{outcomeSaid}
-use Rattle.zsrm.specs.Given.{Given}
+use Rattle.zsrm.specs.Given.{Given, isSE}
+use Rattle.zsrm.specs.Tick.{choice}
 use Rattle.zsrm.specs.Verdict.{emptyPart, verdict, witness, part, partTo, shownBy}
 use Rattle.zsrm.proofs.Laws.Answers.{accepted}
 use Rattle.zsrm.proofs.Laws.Mend.{mend-not-refused}
@@ -31,6 +32,7 @@ use Rattle.tables.specs.Tables.{arrival, deadlineInstant, lists}
 use Rattle.zsrm.specs.Run.{replay, replayed}
 use Rattle.zsrm.proofs.Laws.Replay.{tick-replay}
 use Rattle.zsrm.proofs.Laws.Verdicts.{finishes-later, verdict-named}
+use Rattle.zsrm.proofs.Laws.View.{none-ended}
 use Rattle.tables.proofs.Laws.Said.{outcome-said}
 use Rattle.zsrm.specs.declared.answers.Claim.the-variants as claims
 use Rattle.zsrm.specs.declared.answers.Mended.the-variants as mends
@@ -150,6 +152,14 @@ module _ (g : Given) (tie : Tie) (r : Record) where
   unfolding refusedStep
   step-blank number place e = let q = step-refused number place e in (ap (λ (s : Stepped). s .«record») q, q)
 
+  pub step-ends-none : isSE (g .mode) ≡ false → stepAnswer g tie r .ended ≡ 0
+  unfolding stepAnswer unless refusedStep stepped
+  step-ends-none s = go (checkStep g r)
+    where
+      go : (o : Outcome) → unless o refusedStep (stepped g tie r) .ended ≡ 0
+      go Done = none-ended g r (choice g tie r) s
+      go (Refused n p) = refl
+
 -- a verdict is given exactly where the checks pass and it is the judgement
 judged-exactly : (g : Given) (r : Record) (j : ℕ) (v : Verdict) → ((number place : ℕ) → verdicts.Refused number place ≡ v → ⊥)
     → verdictSaid (verdictAnswer g r j) ≡ verdictSaid v ↔ (outcomeSaid (checkVerdict g r j) ≡ outcome.done) × Judged g r j v
@@ -200,6 +210,16 @@ module _ (g : Given) (r : Record) (j : ℕ) where
       Iff·trans (judged-exactly g r j (verdicts.Late n false) (λ n p e. let z : _≡_ {A = ℕ} 0 1 = cc in omega arith)) (
         λ w. (w .0, stands standings.Unfinished .0 (alive-reads r j .0 (w .1 .0)), w .1 .1),
         λ w. (w .0, (alive-reads r j .1 (stands standings.Unfinished .1 (w .1)), w .2)),
+      )
+
+  pub open-exactly : verdictSaid (verdictAnswer g r j) ≡ say.stillOpen
+      ↔ (outcomeSaid (checkVerdict g r j) ≡ outcome.done)
+      × ((standingSaid (standingAt r j) ≡ say.notArrived) ⊎ ((standingSaid (standingAt r j) ≡ say.unfinished) × (r .tick < deadlineInstant (g .lists) j)))
+  unfolding verdictSaid standingSaid
+  open-exactly =
+      Iff·trans (judged-exactly g r j verdicts.Open (λ n p e. let z : _≡_ {A = ℕ} 0 1 = cc in omega arith)) (
+        λ w. (w .0, ⊎-elim (λ q. inl (stands standings.NotArrived .0 q)) (λ q. inr (stands standings.Unfinished .0 (alive-reads r j .0 (q .0)), q .1)) (w .1)),
+        λ w. (w .0, ⊎-elim (λ q. inl (stands standings.NotArrived .1 q)) (λ q. inr (alive-reads r j .1 (stands standings.Unfinished .1 (q .0)), q .1)) (w .1)),
       )
 
   module _ (n : ℕ) (entries : List ℕ) (says : verdictSaid (verdictAnswer g r j) ≡ say.late n false) where

@@ -6,7 +6,7 @@ use Prim.Native.Nat.{_+_, _<_, suc, zero, ℕ, _≤_}
 use mathlib.Core.Bool.{false, not, true}
 use mathlib.Core.List.{_++_, List, [], _∷_}
 use mathlib.Core.Logic.{inl, inr, _↔_, _⊎_}
-use mathlib.Core.Path.{ap, ap₂, refl, sym, _∙_, _≡_}
+use mathlib.Core.Path.{ap, ap₂, refl, subst, sym, _∙_, _≡_}
 use native.Mathlib.Decide.{ℕ-discrete}
 use native.Mathlib.Numerals.{add-one}
 use native.Mathlib.Omega.{arith}
@@ -27,7 +27,7 @@ use Rattle.zsrm.specs.Run.{entriesBy, finalBy, replay, replayed, runEntr
 use Rattle.zsrm.specs.Given.{Given}
 use Rattle.tables.specs.Tables.{Lists}
 use Rattle.zsrm.specs.Tick.{advanced, choice}
-use Rattle.zsrm.proofs.Laws.Answers.{accepted, LegalClaim, run-given, whole-legal}
+use Rattle.zsrm.proofs.Laws.Answers.{accepted, LegalClaim, lists-numbered, run-given, whole-legal}
 use Rattle.zsrm.proofs.Laws.Choice.{choice-may}
 use Rattle.zsrm.proofs.Laws.Exactly.{step-checked}
 use Rattle.zsrm.proofs.Laws.Consistent.{consistent-tick, fresh-consistent}
@@ -35,7 +35,7 @@ use Rattle.zsrm.proofs.Laws.Going.{Going, final-more, final-none, going
 use Rattle.zsrm.proofs.Laws.Places.{tick-fresh}
 use Rattle.zsrm.proofs.Laws.Promises.{going-from}
 use Rattle.tables.proofs.Laws.Accepted.{lists-few}
-use Rattle.tables.proofs.Laws.Refusals.{before-first, before-last, before-second, refuse-fine, unless-done, unless-refused}
+use Rattle.tables.proofs.Laws.Refusals.{Numbered, before-first, before-last, before-second, numbered-before, numbered-refuse, refuse-fine, unless-done, unless-refused}
 use Rattle.zsrm.proofs.Laws.Replay.{tick-replay}
 use Rattle.zsrm.proofs.Laws.Run.{length-entries, replay-append, resumed-legal, run-by-parts, stay-resumes}
 use Rattle.zsrm.proofs.Laws.Ties.{runs-agree}
@@ -73,6 +73,9 @@ module _ (g : Given) (r : Record) (ticks entries : ℕ) where
   unfolding checkGoOn check10 check11 checkRoom refuse before
   go-on-accepted lists whole sound room = rw (lists, eq-eqb entries ticks whole, sound, le-ltb 16384 (r .tick + ticks) room)
 
+abbrev NotNine : ℕ → Type 0
+NotNine number = number ≡ 9 → ⊥
+
 lists-said : (l : Lists) → outcomeSaid (checkLists l) ≡ outcome.done → checkLists l ≡ Done
 unfolding outcomeSaid
 lists-said l says = outcome-said (checkLists l) Done says
@@ -100,6 +103,16 @@ module _ (g : Given) (tie : Tie) (r : Record) (ticks : ℕ) (lent : List ℕ) wh
       → outcomeSaid (goOnAnswer g tie r ticks lent .outcome) ≡ outcome.refused 12 0
   unfolding outcomeSaid goOnAnswer ran checkGoOn check10 check11 checkRoom refuse before
   go-on-past-said lists whole sound past = rw (lists-said (g .lists) lists, eq-eqb (length lent) ticks whole, sound, lt-ltb 16384 (r .tick + ticks) past)
+
+  -- whatever is refused: the lists with 2 to 8, and then 10, 11 and 12
+  pub go-on-never-nine : (place : ℕ) → outcomeSaid (goOnAnswer g tie r ticks lent .outcome) ≡ outcome.refused 9 place → ⊥
+  unfolding outcomeSaid checkGoOn check10 check11 checkRoom
+  go-on-never-nine place says =
+      subst (Numbered NotNine) (sym go-on-outcome ∙ outcome-said (goOnAnswer g tie r ticks lent .outcome) (Refused 9 place) says)
+      (numbered-before NotNine (checkLists (g .lists)) _ (lists-numbered NotNine (λ n least most e. omega arith) (g .lists))
+      (numbered-before NotNine (check10 (length lent) ticks) _ (numbered-refuse NotNine _ 10 0 (λ e. omega arith))
+      (numbered-before NotNine (check11 (consistent g r)) _ (numbered-refuse NotNine _ 11 0 (λ e. omega arith)) (numbered-refuse NotNine _ 12 0 (λ e. omega arith)))))
+      refl
 
   pub go-on-refused-keeps : (number place : ℕ) → outcomeSaid (goOnAnswer g tie r ticks lent .outcome) ≡ outcome.refused number place
       → (goOnSchedule g tie r ticks lent ≡ lent) × (goOnAnswer g tie r ticks lent .«record» ≡ blank)

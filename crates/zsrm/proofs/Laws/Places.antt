@@ -7,7 +7,7 @@ use mathlib.Core.Path.{ap, refl, _≡_, _∙_}
 use mathlib.Core.Logic.{_↔_, _≢_}
 use native.Mathlib.Omega.{arith}
 use lib.Dec.{eqb}
-use borrow.Author.Tests.{eqb-false, eqb-true, leb-false, lt-ltb}
+use borrow.Author.Tests.{eq-eqb, eqb-false, eqb-true, leb-false, lt-ltb}
 use Rattle.bits.proofs.Below.{getD-list}
 use Rattle.zsrm.specs.declared.record.Place.{Place}
 use Rattle.zsrm.specs.declared.record.Record.{Record}
@@ -39,6 +39,10 @@ done-fresh jobs j h = ap (λ (x : Place). x .done) (place-fresh jobs j h)
 pub suspended-fresh : (jobs : List ℕ) (j : ℕ) → j < 64 → suspendedAt (fresh jobs) j ≡ 0
 unfolding suspendedAt freshPlace
 suspended-fresh jobs j h = ap (λ (x : Place). x .suspended) (place-fresh jobs j h)
+
+pub waited-fresh : (jobs : List ℕ) (j : ℕ) → j < 64 → waitedAt (fresh jobs) j ≡ 0
+unfolding waitedAt freshPlace
+waited-fresh jobs j h = ap (λ (x : Place). x .waited) (place-fresh jobs j h)
 
 pub standing-fresh : (jobs : List ℕ) (j : ℕ) → j < 64 → standingAt (fresh jobs) j ≡ opening jobs 0 j
 unfolding standingAt freshPlace
@@ -109,3 +113,15 @@ module _ (jobs : List ℕ) (t j : ℕ) where
       (λ h. let a = arrived-reads .0 h in
       by-cond P (eqb (execution jobs j) 0) _ _ (λ c. finished (a .0) (a .1) (eqb-true _ _ c)) (λ c. running (a .0) (a .1) (eqb-false _ _ c)))
       (λ h. waiting (away-reads .0 h))
+
+  -- so it is not ended
+  pub opening-unended : (e : ℕ) → opening jobs t j ≡ Ended e → ⊥
+  opening-unended e = opens (λ s. s ≡ Ended e → ⊥) (λ l a c q. clashes (cc)) (λ l a c q. clashes (cc)) (λ w q. clashes (cc))
+    where
+      clashes : _≡_ {A = ℕ} 0 1 → ⊥
+      clashes z = omega arith
+
+  -- a job with c = 0 is finished at its arrival, once that has come
+  pub opens-finished : j < jobCount jobs → arrival jobs j ≤ t → execution jobs j ≡ 0 → opening jobs t j ≡ Finished (arrival jobs j)
+  unfolding opening arriving
+  opens-finished l a none = rw (arrived-reads .1 (l, a), eq-eqb (execution jobs j) 0 none)

@@ -1,15 +1,17 @@
--- What the promises on runs, witnesses and shown parts are proved from, and a table that meets promise (ii)'s premise.
+-- What the promises on runs, witnesses and shown parts are proved from.
 use Prim.Native.Nat.{_+_, _-_, _<_, suc, zero, ℕ, _≤_}
-use mathlib.Core.Bool.{Bool, true}
-use mathlib.Core.List.{List, [], _∷_}
-use mathlib.Core.Logic.{Iff·trans, _↔_}
+use mathlib.Core.Bool.{Bool, false, true}
+use mathlib.Core.List.{List}
+use mathlib.Core.Logic.{Iff·trans, inl, inr, _↔_, _⊎_, ⊎-elim}
 use mathlib.Core.Path.{ap, refl, subst, sym, _∙_, _≡_}
 use native.Mathlib.Numerals.{add-one}
 use native.Mathlib.Omega.{arith}
 use lib.ListN.{drop, getD, length, length-drop, take}
 use lib.Seq.{getD-drop, getD-take, length-take-le}
-use borrow.Author.Tests.{eq-eqb, leb-true, lt-ltb, ltb-true, ne-eqb}
+use borrow.Author.Tests.{eq-eqb, lt-ltb, ne-eqb}
+use Rattle.bits.proofs.Bools.{clash}
 use Rattle.tables.specs.declared.outcome.Outcome.the-variants.{Done, Refused}
+use Rattle.zsrm.specs.declared.answers.Claim.{Claim}
 use Rattle.zsrm.specs.declared.answers.Stepped.{Stepped}
 use Rattle.zsrm.specs.declared.answers.Verdict.{Verdict}
 use Rattle.zsrm.specs.declared.answers.Witness.{Witness}
@@ -18,7 +20,7 @@ use Rattle.zsrm.specs.declared.tie.Tie.{Tie}
 use Rattle.zsrm.specs.declared.tie.Tie.the-variants.{Stay}
 use Rattle.zsrm.specs.declared.record.Standing.the-variants.{Finished}
 use Rattle.zsrm.specs.Answers.{checkSchedule, checkStep, checkWitness, claimAnswer, freshAnswer, ran, responseAnswer, runAnswer, runSchedule, stepAnswer, stepped, stepsFrom, verdictAnswer, witnessAnswer}
-use Rattle.tables.specs.Refusals.{unless, ascending, before, check13, check2, check3, check4, checkLists, checkTasks, outside, refuse}
+use Rattle.tables.specs.Refusals.{unless, before, check13, checkLists, refuse}
 use Rattle.zsrm.specs.Said.{claimSaid, verdictSaid, witnessSaid}
 use Rattle.tables.specs.Said.{outcomeSaid}
 use Rattle.zsrm.specs.Code.Claims.{FitsIn}
@@ -26,20 +28,19 @@ use Rattle.zsrm.specs.Legal.{claim, isLegal, legalLength}
 use Rattle.zsrm.specs.Record.{blank, consistent, doneAt, fresh, standingAt, suspendedAt, waitedAt, check11, check12}
 use Rattle.zsrm.specs.Run.{replay, replayed, runEntries, runRecord, finalBy}
 use Rattle.zsrm.specs.Given.{Given}
-use Rattle.tables.specs.Tables.{arrival, criticality, deadline, execution, idle, jobCount, nominal, overload, period, priority, taskCount, offset}
+use Rattle.tables.specs.Tables.{Lists, arrival, execution, idle, jobCount}
 use Rattle.zsrm.specs.Tick.{candidate, choice}
-use Rattle.zsrm.specs.Topmost.{Topmost}
 use Rattle.zsrm.specs.Verdict.{Part, missed, part, verdict, witness}
 use Rattle.zsrm.proofs.Laws.Run.{getD-entries}
-use Rattle.zsrm.proofs.Laws.Answers.{accepted, is-legal, run-given, verdict-answered, whole-legal}
+use Rattle.zsrm.proofs.Laws.Answers.{accepted, is-legal, run-given, verdict-answered}
 use Rattle.zsrm.proofs.Laws.Consistent.{account-at, fresh-consistent, sound-at}
 use Rattle.zsrm.proofs.Laws.Exactly.{answered}
 use Rattle.zsrm.proofs.Laws.Going.{Going, going-more, going-none, steps-entry}
 use Rattle.zsrm.proofs.Laws.Places.{tick-fresh}
 use Rattle.tables.proofs.Laws.Refusals.{before-first, unless-done, unless-refused}
-use Rattle.zsrm.proofs.Laws.Said.{verdict-said, witness-said}
+use Rattle.zsrm.proofs.Laws.Said.{claim-said, verdict-said, witness-said}
 use Rattle.zsrm.proofs.Laws.Verdicts.{part-fits, replayed-consistent, witnessed}
-use Rattle.zsrm.proofs.Readings.{FirstOutside, Within, witness-reads}
+use Rattle.zsrm.proofs.Readings.{FirstOutside, Within, verdict-reads, witness-reads}
 use Rattle.zsrm.proofs.Laws.Choice.{choice-kept, choice-may}
 use Rattle.tables.proofs.Laws.Accepted.{lists-few}
 use Rattle.tables.proofs.Laws.Said.{outcome-said}
@@ -126,30 +127,22 @@ module _ (g : Given) (tie : Tie) (horizon : ℕ) (lent : List ℕ) (ok : checkSc
       ap (λ (es : List ℕ). getD es t idle) (run-given g tie horizon lent ok .1) ∙ getD-entries g (choice g tie) (fresh (g .lists .jobs)) horizon t l
       ∙ ap (λ (s : Stepped). s .entry) (sym (ran-step t l))
 
+-- a schedule that is accepted is accepted as a witness against a job of the list
+job-checked : (l : Lists) (horizon entries j : ℕ) → checkSchedule l horizon entries ≡ Done → j < jobCount (l .jobs) → checkWitness l horizon entries j ≡ Done
+unfolding checkWitness check13 refuse before
+job-checked l horizon entries j ok named = rw (ok, lt-ltb j (jobCount (l .jobs)) named)
+
 -- a legal schedule was accepted, and its verdicts are not refused
 module _ (g : Given) (horizon : ℕ) (schedule : List ℕ) (legal : claimSaid (claimAnswer g horizon schedule) ≡ say.legal) where
   module _ (j : ℕ) (l : j < jobCount (g .lists .jobs)) where
     checked-job : checkWitness (g .lists) horizon (length schedule) j ≡ Done
-    unfolding checkWitness check13 refuse before
-    checked-job = rw (is-legal g horizon schedule legal .checked, lt-ltb j (jobCount (g .lists .jobs)) l)
+    checked-job = job-checked (g .lists) horizon (length schedule) j (is-legal g horizon schedule legal .checked) l
 
     taken : verdictAnswer g (replayed g schedule) j ≡ verdict (g .lists) (replayed g schedule) j
     taken =
         let c = is-legal g horizon schedule legal in
         let a = c .input in
         verdict-answered g (a .lists) (replayed g schedule) (replayed-consistent g schedule (omega arith) (c .legal)) j l
-
-    witness-taken : witnessAnswer g horizon schedule j ≡ witness g schedule j
-    unfolding witnessAnswer
-    witness-taken = unless-done _ _ (checkWitness (g .lists) horizon (length schedule) j) checked-job
-
-    -- within the assumption a job that is judged met is not missed
-    pub met-not-missed : Within g j → verdictSaid (verdictAnswer g (replayed g schedule) j) ≡ say.met
-        → witnessSaid (witnessAnswer g horizon schedule j) ≡ say.notMissed
-    unfolding verdictSaid witnessSaid
-    met-not-missed w h =
-        let met : verdict (g .lists) (replayed g schedule) j ≡ verdicts.Met = sym taken ∙ verdict-said (verdictAnswer g (replayed g schedule) j) verdicts.Met h in
-        ap witnessSaid (witness-taken ∙ witness-reads g schedule j witnesses.NotMissed .1 (whole-legal g schedule .1 (is-legal g horizon schedule legal .legal), w, ap missed met))
 
     -- a finished job has spent its execution time, and what is accounted for beside it
     pub response-made : (f : ℕ) → standingAt (replayed g schedule) j ≡ Finished f
@@ -191,19 +184,20 @@ module _ (g : Given) (horizon : ℕ) (schedule : List ℕ) (legal : claimSaid (c
         rw (shown f q) (getD-take (f - arrival (g .lists .jobs) j) (drop (arrival (g .lists .jobs) j) schedule) i idle (omega arith)
         ∙ getD-drop (arrival (g .lists .jobs) j) schedule i idle)
 
--- what is answered to a witness whose schedule is legal: w exactly where the claim is legal, the job is in the list, and A holds
+-- what is answered to a witness: w exactly where the claim is answered c, the job is in the list, and A holds
 module _ (g : Given) (horizon : ℕ) (schedule : List ℕ) (j : ℕ) where
   its-schedule : checkWitness (g .lists) horizon (length schedule) j ≡ Done → checkSchedule (g .lists) horizon (length schedule) ≡ Done
   unfolding checkWitness
   its-schedule ok = before-first (checkSchedule (g .lists) horizon (length schedule)) (check13 (g .lists .jobs) j) ok
 
-  legal-answer : (w : Witness) (A : Type 0) → ((number place : ℕ) → witnesses.Refused number place ≡ w → ⊥)
-      → (witness g schedule j ≡ w ↔ (claim g schedule ≡ claims.Legal) × A)
-      → witnessSaid (witnessAnswer g horizon schedule j) ≡ witnessSaid w ↔ (claimSaid (claimAnswer g horizon schedule) ≡ say.legal) × (j < jobCount (g .lists .jobs)) × A
-  unfolding witnessSaid witnessAnswer claimSaid claimAnswer
-  legal-answer w A never means = (there, back)
+  claim-answer : (w : Witness) (c : Claim) (A : Type 0) → ((number place : ℕ) → witnesses.Refused number place ≡ w → ⊥)
+      → ((number place : ℕ) → claims.Refused number place ≡ c → ⊥)
+      → (witness g schedule j ≡ w ↔ (claim g schedule ≡ c) × A)
+      → witnessSaid (witnessAnswer g horizon schedule j) ≡ witnessSaid w ↔ (claimSaid (claimAnswer g horizon schedule) ≡ claimSaid c) × (j < jobCount (g .lists .jobs)) × A
+  unfolding witnessAnswer claimAnswer
+  claim-answer w c A never plain means = (there, back)
     where
-      there : witnessSaid (witnessAnswer g horizon schedule j) ≡ witnessSaid w → (claimSaid (claimAnswer g horizon schedule) ≡ say.legal) × (j < jobCount (g .lists .jobs)) × A
+      there : witnessSaid (witnessAnswer g horizon schedule j) ≡ witnessSaid w → (claimSaid (claimAnswer g horizon schedule) ≡ claimSaid c) × (j < jobCount (g .lists .jobs)) × A
       there h =
           let x = answered witnesses.Refused (witness g schedule j) w never (checkWitness (g .lists) horizon (length schedule) j) .0
           (witness-said (witnessAnswer g horizon schedule j) w h) in
@@ -213,9 +207,29 @@ module _ (g : Given) (horizon : ℕ) (schedule : List ℕ) (j : ℕ) where
             a .1,
           )
 
-      back : (claimSaid (claimAnswer g horizon schedule) ≡ say.legal) × (j < jobCount (g .lists .jobs)) × A → witnessSaid (witnessAnswer g horizon schedule j) ≡ witnessSaid w
+      back : (claimSaid (claimAnswer g horizon schedule) ≡ claimSaid c) × (j < jobCount (g .lists .jobs)) × A → witnessSaid (witnessAnswer g horizon schedule j) ≡ witnessSaid w
       back m =
-          ap witnessSaid (witness-taken g horizon schedule (m .0) j (m .1) ∙ means .1 (whole-legal g schedule .1 (is-legal g horizon schedule (m .0) .legal), m .2))
+          let x = answered claims.Refused (claim g schedule) c plain (checkSchedule (g .lists) horizon (length schedule)) .0 (claim-said (claimAnswer g horizon schedule) c (m .0)) in
+          let ok = job-checked (g .lists) horizon (length schedule) j (x .0) (m .1) in
+          ap witnessSaid (unless-done _ _ (checkWitness (g .lists) horizon (length schedule) j) ok ∙ means .1 (x .1, m .2))
+
+  -- not legal, as the claim is, whatever the job
+  pub not-legal-answered : (t : ℕ) → witnessSaid (witnessAnswer g horizon schedule j) ≡ say.notLegal t
+      ↔ (claimSaid (claimAnswer g horizon schedule) ≡ say.notLegal t) × (j < jobCount (g .lists .jobs))
+  unfolding witnessSaid claimSaid
+  not-legal-answered t =
+      Iff·trans
+      (claim-answer (witnesses.NotLegal t) (claims.NotLegal t) (Unit {0}) (λ n p e. let z : _≡_ {A = ℕ} 0 1 = cc in omega arith)
+      (λ n p e. let z : _≡_ {A = ℕ} 0 1 = cc in omega arith)
+      (Iff·trans (witness-reads g schedule j (witnesses.NotLegal t)) (λ e. (e, tt), λ m. m .0)))
+      (λ m. (m .0, m .1), λ m. (m .0, m .1, tt))
+
+  -- and where the claim is legal
+  legal-answer : (w : Witness) (A : Type 0) → ((number place : ℕ) → witnesses.Refused number place ≡ w → ⊥)
+      → (witness g schedule j ≡ w ↔ (claim g schedule ≡ claims.Legal) × A)
+      → witnessSaid (witnessAnswer g horizon schedule j) ≡ witnessSaid w ↔ (claimSaid (claimAnswer g horizon schedule) ≡ say.legal) × (j < jobCount (g .lists .jobs)) × A
+  unfolding claimSaid
+  legal-answer w A never means = claim-answer w claims.Legal A never (λ n p e. let z : _≡_ {A = ℕ} 0 1 = cc in omega arith) means
 
   pub outside-answered : (i : ℕ) → witnessSaid (witnessAnswer g horizon schedule j) ≡ say.outside i
       ↔ (claimSaid (claimAnswer g horizon schedule) ≡ say.legal) × (j < jobCount (g .lists .jobs)) × FirstOutside g j i
@@ -254,20 +268,27 @@ module _ (g : Given) (horizon : ℕ) (schedule : List ℕ) (j : ℕ) where
       accepted-exactly witnesses.AcceptedEnded verdicts.Ended (λ n p e. let z : _≡_ {A = ℕ} 0 1 = cc in omega arith)
       (witness-reads g schedule j witnesses.AcceptedEnded)
 
--- three tasks, of which task 0 is topmost: its offset 12 plus its overload time 8 is within its deadline 20
-abbrev pub threeTasks : List ℕ
-threeTasks = 20 ∷ 20 ∷ 4 ∷ 8 ∷ 3 ∷ 2 ∷ 12 ∷ 10 ∷ 10 ∷ 3 ∷ 4 ∷ 2 ∷ 3 ∷ 6 ∷ 40 ∷ 40 ∷ 6 ∷ 6 ∷ 1 ∷ 1 ∷ 30 ∷ []
+  -- it is not missed where the witness is within the assumption and the job is met or open in the schedule
+  pub not-missed-answered : witnessSaid (witnessAnswer g horizon schedule j) ≡ say.notMissed
+      ↔ (claimSaid (claimAnswer g horizon schedule) ≡ say.legal) × (j < jobCount (g .lists .jobs)) × Within g j
+      × ((verdictSaid (verdictAnswer g (replayed g schedule) j) ≡ say.met) ⊎ (verdictSaid (verdictAnswer g (replayed g schedule) j) ≡ say.stillOpen))
+  unfolding witnessSaid verdictSaid
+  not-missed-answered =
+      Iff·trans
+      (legal-answer witnesses.NotMissed (Within g j × (missed v ≡ false)) (λ n p e. let z : _≡_ {A = ℕ} 0 1 = cc in omega arith)
+      (Iff·trans (witness-reads g schedule j witnesses.NotMissed) (λ m. (m .0, (m .1, m .2)), λ m. (m .0, m .1 .0, m .1 .1)))) (
+        λ m. let q = taken g horizon schedule (m .0) j (m .1) in
+            (m .0, m .1, m .2 .0, ⊎-elim (λ e. inl (ap verdictSaid (q ∙ e))) (λ e. inr (ap verdictSaid (q ∙ e))) (spared v refl (m .2 .1))),
+        λ m. let q = sym (taken g horizon schedule (m .0) j (m .1)) in
+            (m .0, m .1, (m .2, ⊎-elim (λ h. ap missed (q ∙ verdict-said _ verdicts.Met h)) (λ h. ap missed (q ∙ verdict-said _ verdicts.Open h)) (m .3))),
+      )
+    where
+      v : Verdict
+      v = verdict (g .lists) (replayed g schedule) j
 
-pub three-tasks-accepted : checkTasks threeTasks ≡ Done
-unfolding checkTasks check2 check3 check4 ascending before refuse outside taskCount period deadline nominal overload criticality priority offset
-three-tasks-accepted = refl
-
-pub topmost-example : Topmost threeTasks 0
-unfolding taskCount criticality offset overload deadline
-topmost-example = record { known = ltb-true 0 3 refl; above = less; fits = leb-true 20 20 refl }
-  where
-    less : (i : ℕ) → i < 3 → (i ≡ 0 → ⊥) → criticality threeTasks i < 3
-    less zero l ne = absurd (ne refl)
-    less (suc zero) l ne = ltb-true 2 3 refl
-    less (suc (suc zero)) l ne = ltb-true 1 3 refl
-    less (suc (suc (suc i))) l ne = absurd (omega arith)
+      spared : (x : Verdict) → v ≡ x → missed x ≡ false → (x ≡ verdicts.Met) ⊎ (x ≡ verdicts.Open)
+      spared (verdicts.Refused n p) q h = absurd (verdict-reads g (replayed g schedule) j (verdicts.Refused n p) .0 q)
+      spared verdicts.Met q h = inl refl
+      spared (verdicts.Late n isExact) q h = clash refl h
+      spared verdicts.Ended q h = clash refl h
+      spared verdicts.Open q h = inr refl

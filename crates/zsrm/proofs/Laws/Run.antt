@@ -152,9 +152,9 @@ module _ (g : Given) where
   replay-append r (x ∷ xs) ys = replay-append (advanced g r x) xs ys
 
   -- the record before the next tick
-  pub record-more : (es : List ℕ) (t : ℕ) → t < length es → recordBefore g es (suc t) ≡ advanced g (recordBefore g es t) (getD es t 0)
+  pub record-more : (es : List ℕ) (t d : ℕ) → t < length es → recordBefore g es (suc t) ≡ advanced g (recordBefore g es t) (getD es t d)
   unfolding recordBefore recordAt replay
-  record-more es t b = ap (replay g (fresh (g .lists .jobs))) (take-suc es t 0 b) ∙ replay-append (fresh (g .lists .jobs)) (take t es) (getD es t 0 ∷ [])
+  record-more es t d b = ap (replay g (fresh (g .lists .jobs))) (take-suc es t d b) ∙ replay-append (fresh (g .lists .jobs)) (take t es) (getD es t d ∷ [])
 
   pub run-by-parts : (pick : Record → ℕ) (a b : ℕ) (r : Record)
       → entriesBy g pick r (a + b) ≡ entriesBy g pick r a ++ entriesBy g pick (replay g r (entriesBy g pick r a)) b

@@ -23,8 +23,8 @@ use Rattle.zsrm.specs.declared.record.Standing.the-variants.{Ended, Fini
 use Rattle.zsrm.specs.Answers.{checkSchedule, checkVerdict, checkWitness, judgedAt, verdictAnswer, verdictsAnswer}
 use Rattle.zsrm.specs.Given.{Given}
 use Rattle.zsrm.specs.Code.Claims.{FitsIn, ReplayedAs}
-use Rattle.tables.specs.Tables.{arrival, idle, jobCount, Lists}
-use Rattle.zsrm.specs.Record.{consistent, doneAt, fresh, standingAt, check11}
+use Rattle.tables.specs.Tables.{arrival, execution, idle, jobCount, Lists}
+use Rattle.zsrm.specs.Record.{consistent, doneAt, fresh, opening, standingAt, check11}
 use Rattle.tables.specs.Refusals.{before, check13, checkLists, unless}
 use Rattle.zsrm.specs.Run.{replay, replayed, recordBefore}
 use Rattle.zsrm.specs.Tick.{advanced, alive, standingAfter, unfinished}
@@ -34,7 +34,7 @@ use Rattle.zsrm.proofs.Laws.Assumption.{named-outside}
 use Rattle.zsrm.proofs.Laws.Claims.{replayed-whole}
 use Rattle.zsrm.proofs.Laws.Consistent.{Sound, advanced-consistent, fresh-consistent, sound-at}
 use Rattle.bits.proofs.Bools.{clash}
-use Rattle.zsrm.proofs.Laws.Places.{standing-advanced, standing-alive, tick-advanced, tick-fresh}
+use Rattle.zsrm.proofs.Laws.Places.{opens, opens-finished, standing-advanced, standing-alive, standing-fresh, tick-advanced, tick-fresh}
 use Rattle.zsrm.proofs.Laws.Tick.{goes-on}
 use Rattle.tables.proofs.Laws.Refusals.{before-first, before-second, refuse-fine}
 use Rattle.zsrm.proofs.Laws.Replay.{kept-at, legal-may, replayed-is, tick-replay, AllLegal}
@@ -64,6 +64,11 @@ unfolding checkVerdict
 verdict-named g r j ok =
     listed (g .lists) j (before-first (checkLists (g .lists)) _ ok)
     (before-second (check11 (consistent g r)) _ (before-second (checkLists (g .lists)) _ ok))
+
+pub verdict-sound : (g : Given) (r : Record) (j : ℕ) → checkVerdict g r j ≡ Done → consistent g r ≡ true
+unfolding checkVerdict check11
+verdict-sound g r j ok =
+    not-false (consistent g r) (refuse-fine _ _ _ (before-first (check11 (consistent g r)) _ (before-second (checkLists (g .lists)) _ ok)))
 
 -- what a witness that is not refused says of its input
 pub record Witnessed (l : Lists) (horizon entries j : ℕ) : Type 0 where
@@ -160,7 +165,7 @@ part-answer g schedule j x p =
     go true e = ap (λ (r : Record). partTo (arrival (g .lists .jobs) j) schedule (standingAt r j)) (replayed-whole g schedule x p (eqb-true (legalLength g schedule) (length schedule) e))
 
 -- all verdicts: what is checked once and what is checked of each job are the verdict's checks
-before-assoc : (a b c : Outcome) → before (before a b) c ≡ before a (before b c)
+pub before-assoc : (a b c : Outcome) → before (before a b) c ≡ before a (before b c)
 unfolding before
 before-assoc Done b c = refl
 before-assoc (Refused number place) b c = refl
@@ -208,3 +213,24 @@ module _ (g : Given) (j : ℕ) (l : j < 64) where
 
       apart : {x y : ℕ} {A : Type 0} → Finished x ≡ Ended y → A
       apart e = let z : _≡_ {A = ℕ} 0 1 = cc in absurd (omega arith)
+
+  -- a job with c = 0 stands at each instant as it opens there: not arrived, and from its arrival on finished then
+  pub empty-opens : execution (g .lists .jobs) j ≡ 0 → (es : List ℕ) (r : Record) → standingAt r j ≡ opening (g .lists .jobs) (r .tick) j
+      → standingAt (replay g r es) j ≡ opening (g .lists .jobs) (replay g r es .tick) j
+  unfolding replay standingAfter
+  empty-opens none [] r q = q
+  empty-opens none (e ∷ es) r q =
+      empty-opens none es (advanced g r e)
+      (standing-advanced g r e j l ∙ ap (standingAfter g r e j) q
+      ∙ opens (g .lists .jobs) (r .tick) j (λ s. standingAfter g r e j s ≡ opening (g .lists .jobs) (advanced g r e .tick) j)
+      (λ k a c. rw tick-advanced (sym (opens-finished (g .lists .jobs) (suc (r .tick)) j k (omega arith) none))) (λ k a c. absurd (c none)) (λ w. rw tick-advanced))
+
+-- so at the end of a schedule that reaches its arrival it is finished at its arrival
+pub empty-finished : (g : Given) (schedule : List ℕ) (j : ℕ) → j < 64 → j < jobCount (g .lists .jobs) → execution (g .lists .jobs) j ≡ 0
+    → arrival (g .lists .jobs) j ≤ length schedule → standingAt (replayed g schedule) j ≡ Finished (arrival (g .lists .jobs) j)
+unfolding replayed
+empty-finished g schedule j l k none a =
+    let jobs = g .lists .jobs in
+    let t = tick-replay g (fresh jobs) schedule in
+    empty-opens g j l none schedule (fresh jobs) (standing-fresh jobs j l ∙ ap (λ (t : ℕ). opening jobs t j) (sym (tick-fresh jobs)))
+    ∙ opens-finished jobs (replay g (fresh jobs) schedule .tick) j k (omega (arith, t)) none

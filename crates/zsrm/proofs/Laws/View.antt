@@ -205,9 +205,10 @@ module _ (g : Given) (r : Record) (few : jobCount (g .lists .jobs) ≤ 64) where
         none : ltb e n ≡ false → 0 ≡ word 64 (upTo (waits g r e) n)
         none h = sym (word-none _ 64 (λ j _. and-false-right (ltb j n) (fails _ (λ w. clash (lt-ltb e n (waiting g r e j .0 w .1)) h))))
 
-    pub none-ended : isSE (g .mode) ≡ false → endedWord g r e ≡ 0
-    unfolding endedWord jobWord
-    none-ended s = word-none _ 64 (λ j _. and-false-right (ltb j (jobCount (g .lists .jobs))) (fails (ends g r e j) (λ h. clash (se-reads (g .mode) .1 (ends-by g r e j h .1 .se)) s)))
+-- in mode S no job is ended
+pub none-ended : (g : Given) (r : Record) (e : ℕ) → isSE (g .mode) ≡ false → endedWord g r e ≡ 0
+unfolding endedWord jobWord
+none-ended g r e s = word-none _ 64 (λ j _. and-false-right (ltb j (jobCount (g .lists .jobs))) (fails (ends g r e j) (λ h. clash (se-reads (g .mode) .1 (ends-by g r e j h .1 .se)) s)))
 
 -- what the code ends, in either mode, is what the tick ends
 module _ (g : Given) (r : Record) (v : View) (e : ℕ) (few : jobCount (g .lists .jobs) ≤ 64) (q : v ≡ view (g .lists) r) where
@@ -216,7 +217,7 @@ module _ (g : Given) (r : Record) (v : View) (e : ℕ) (few : jobCount (g .lists
   ended-se over m w se p k h = h ∙ rw (k, p, q) (ended-view g r few e se)
 
   pub ended-s : isSE (g .mode) ≡ false → 0 ≡ endedWord g r e
-  ended-s s = sym (none-ended g r few e s)
+  ended-s s = sym (none-ended g r e s)
 
   -- and what it makes of that and of what it sees is what the tick does
   pub ticked-made : (ended : ℕ) (w : Ticked) → ended ≡ endedWord g r e → w ≡ tickedBy (g .lists .jobs) v e ended → w ≡ ticked g r e

@@ -1,5 +1,6 @@
 -- The changes of the jobs below j are there.
 use Prim.Native.Nat.{_-_, _≤_}
+use mathlib.Core.Path.{refl}
 use native.Mathlib.Omega.{arith}
 use borrow.Author.Needs.{needs}
 use Rattle.bits.proofs.Arrays.{Written, written-more, written-none}
@@ -10,7 +11,7 @@ use Rattle.planter.proofs.admission.changed.Statement.{statement}
 use Rattle.planter.proofs.admission.changed.Tie as tie
 
 abbrev Inv-loop : tie.InvT-loop
-Inv-loop count old new out₀ j₀ out j = (j ≤ 64) × Written blankChange (changeOf count old new) (out₀ .changes) (out .changes) 64 j
+Inv-loop count old new out₀ j₀ out j = (j ≤ 64) × Written blankChange (changeOf old new) (out₀ .changes) (out .changes) 64 j
 
 abbrev μ-loop : tie.MeasureT-loop
 μ-loop count old new out₀ j₀ out j = 64 - j
@@ -22,15 +23,15 @@ loop-holds c = (omega arith, written-none blankChange _ _ 64 (rw (c .refused .en
 loop-again : tie.Need-loop-again Inv-loop μ-loop
 unfolding changeOf
 loop-again c =
-    let at = c .before .before .before .before in
+    let at = c .before .before .before in
     let a = at .before .before .args in
-    (omega arith, written-more blankChange (changeOf (a .count) (a .t2) (a .t3)) _ (at .loop .out .changes) 64 (at .loop .j) _ (at .loop .inv .1) (omega arith) (c .change-of .ensures))
+    (omega arith, written-more blankChange (changeOf (a .t2) (a .t3)) _ (at .loop .out .changes) 64 (at .loop .j) _ (at .loop .inv .1) (omega arith) refl)
 
 returns : tie.Need-returns Inv-loop μ-loop
 returns c =
     let at = c .before .before in
     let a = at .before .before .args in
-    changes-made blankChange (changeOf (a .count) (a .t2) (a .t3)) _ (at .loop .out .changes) (a .count) (at .loop .j) (at .loop .inv .1) (omega arith)
+    changes-made blankChange (changeOf (a .t2) (a .t3)) _ (at .loop .out .changes) (a .count) (at .loop .j) (at .loop .inv .1) (omega arith)
 
 pub changed-spec : {M : Type 1} → statement M
 changed-spec =
@@ -44,8 +45,6 @@ changed-spec =
     (λ c. search needs)
     (λ c. search needs)
     (λ c. search needs)
-    (λ c. search needs)
-    (λ c κs. search needs)
     (λ c. search needs)
     (λ c. search needs)
     (λ c. search needs)
