@@ -11,8 +11,8 @@ use mathlib.Core.Path.{ap, refl, sym, _∙_, _≡_}
 use native.Mathlib.Nat.{le-of-eq, zero-mul}
 use native.Mathlib.Omega.{arith}
 use lib.ListN.{drop, getD, length, length-replicate, replicate, take}
-use Rattle.tables.specs.declared.outcome.Outcome.{Outcome}
-use Rattle.tables.specs.declared.outcome.Outcome.the-variants.{Done, Refused}
+use Rattle.tables.specs.declared.answers.Outcome.{Outcome}
+use Rattle.tables.specs.declared.answers.Outcome.the-variants.{Done, Refused}
 use Rattle.tables.specs.Refusals.{checkTasks}
 use Rattle.tables.specs.Said.{done, outcomeSaid, refused}
 use Rattle.tables.proofs.Laws.Said.{outcome-said}
@@ -23,15 +23,16 @@ use Rattle.zsrm.specs.declared.record.Record.{Record}
 use Rattle.zsrm.specs.declared.tie.Tie.the-variants.{Lowest}
 use Rattle.zsrm.specs.Answers.{runAnswer, runSchedule}
 use Rattle.zsrm.specs.Record.{blank}
-use Rattle.batch.specs.declared.Batch.{Batch}
+use Rattle.batch.specs.declared.answers.Batch.{Batch}
 use Rattle.batch.specs.declared.refusals.Found.{Found}
 use Rattle.batch.specs.Answers.{batchAnswer, batchSchedule, checked}
-use Rattle.batch.specs.Refusals.{checkCall, checkRuns, named}
+use Rattle.batch.specs.Refusals.{checkCall, checkRuns, withRun}
 use Rattle.batch.specs.Runs.{Offer, givenOf, jobsBefore, listOf, offer, placeOf, recordOf, recordsOf, scheduleOf, schedulesOf}
 use Rattle.batch.proofs.Laws.Answers.{answer-done, answer-refused, own-checked, own-outcome, ran-same, schedule-done, schedule-kept, wrote-same}
 use Rattle.tables.proofs.Laws.Refusals.{Numbered}
-use Rattle.batch.proofs.Laws.Refusals.{Fits, Whole, batch-call, batch-passes, batch-runs, call-exactly, call-fits, call-numbered, call-seventeen, call-unfit, checks-each, checks-pass, checks-run, checks-zero}
-use Rattle.batch.proofs.Laws.Runs.{length-list, length-place, length-schedules, lists-all, lists-behind, place-ends, record-at, record-none, schedule-part}
+use Rattle.batch.proofs.Laws.Refusals.{Fits, CallNumber, batch-call, batch-passes, batch-runs, call-exactly, call-fits}
+use Rattle.batch.proofs.Laws.Refusals.{call-numbered, call-seventeen, call-unfit, checks-each, checks-pass, checks-run, checks-zero}
+use Rattle.batch.proofs.Laws.Runs.{length-list, length-place, length-schedules, lists-all, lists-behind, place-ends, record-or-blank, record-none, schedule-part}
 
 module _ (o : Offer) (lent : List ℕ) where
   -- what is checked of the call as a whole
@@ -51,7 +52,7 @@ module _ (o : Offer) (lent : List ℕ) where
   -- What is refused of the call as a whole comes first, with run 0.
   pub call-refused : (number place : ℕ) → outcomeSaid call ≡ refused number place
       → (outcomeSaid (batchAnswer o lent .outcome) ≡ refused number place) × (batchAnswer o lent .run ≡ 0)
-  unfolding batchAnswer checked outcomeSaid named
+  unfolding batchAnswer checked outcomeSaid withRun
   call-refused number place says =
       let e = batch-call (o .tasks) (o .jobs) (o .counts) (o .horizon) (length lent) number place (outcome-said call (Refused number place) says) in
       (ap (λ (x : Found). outcomeSaid (x .outcome)) e, ap (λ (x : Found). x .run) e)
@@ -107,7 +108,7 @@ module _ (o : Offer) (lent : List ℕ) where
   unfolding outcomeSaid
   own-refused number place least most says = run-refused number place (go call refl (call-numbered (o .tasks) (o .jobs) (o .counts) (o .horizon) (length lent))) says
     where
-      go : (x : Outcome) → call ≡ x → Numbered Whole x → outcomeSaid x ≡ done
+      go : (x : Outcome) → call ≡ x → Numbered CallNumber x → outcomeSaid x ≡ done
       go Done e w = refl
       go (Refused n p) e w =
           let same : n ≡ number = cc (call-refused n p (ap outcomeSaid e) .0) in
@@ -149,7 +150,8 @@ module _ (o : Offer) (lent : List ℕ) where
           let lot : List ℕ = replicate (o .horizon) 0 in
           let size : length lot ≡ o .horizon = length-replicate (o .horizon) 0 in
           ap (λ (x : Found). outcomeSaid (x .outcome)) e
-          ∙ ap outcomeSaid (checks-pass (o .tasks) (o .jobs) (o .counts) (length (o .counts)) (λ r l. outcome-said _ Done (ap outcomeSaid (sym (own-outcome o (length lent) ok r lot size)) ∙ w .1 r l lot size)))
+          ∙ ap outcomeSaid (checks-pass (o .tasks) (o .jobs) (o .counts) (length (o .counts))
+          (λ r l. outcome-said _ Done (ap outcomeSaid (sym (own-outcome o (length lent) ok r lot size)) ∙ w .1 r l lot size)))
 
   -- Where the call is refused, nothing is written, and every record is blank.
   pub refused-keeps : (number place : ℕ) → outcomeSaid (batchAnswer o lent .outcome) ≡ refused number place
@@ -177,12 +179,12 @@ module _ (o : Offer) (lent : List ℕ) where
     kept = ap (λ (x : Batch). x .records) (sym (answer-done o lent (checked o lent) refl (passes ok) (recordsOf o lent (length (o .counts))) refl))
 
     -- what run r by itself answers and writes, lent any list of horizon entries: the record at its number, the part of the schedule at its place
-    pub record Own (r : ℕ) (own : List ℕ) : Type 0 where
+    pub record ByItself (r : ℕ) (own : List ℕ) : Type 0 where
       pub is-done : outcomeSaid (runAnswer (givenOf o r) Lowest (o .horizon) own .outcome) ≡ done
       pub its-record : (d : Record) → getD (batchAnswer o lent .records) r d ≡ runAnswer (givenOf o r) Lowest (o .horizon) own .«record»
       pub its-schedule : take (o .horizon) (drop (r * o .horizon) (batchSchedule o lent)) ≡ runSchedule (givenOf o r) Lowest (o .horizon) own
 
-    pub each-run : (r : ℕ) → r < length (o .counts) → (own : List ℕ) → length own ≡ o .horizon → Own r own
+    pub each-run : (r : ℕ) → r < length (o .counts) → (own : List ℕ) → length own ≡ o .horizon → ByItself r own
     unfolding checked recordOf scheduleOf outcomeSaid
     each-run r l own size =
         let alone = done-exactly .0 ok .1 r l own size in
@@ -192,7 +194,7 @@ module _ (o : Offer) (lent : List ℕ) where
         record {
           is-done = alone;
           its-record = λ d.
-              ap (λ (x : List Record). getD x r d) kept ∙ record-at o lent (length (o .counts)) r d l (omega (arith, fits .few))
+              ap (λ (x : List Record). getD x r d) kept ∙ record-or-blank o lent (length (o .counts)) r d l (omega (arith, fits .few))
               ∙ ap (λ (x : Ran). x .«record») (ran-same (givenOf o r) Lowest (o .horizon) (placeOf (o .horizon) lent r) own same);
           its-schedule =
               ap (λ (x : List ℕ). take (o .horizon) (drop (r * o .horizon) x)) wrote

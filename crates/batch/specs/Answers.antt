@@ -4,7 +4,7 @@ use Prim.Native.Nat.{ℕ}
 use lib.ListN.{length, replicate}
 use Rattle.tables.specs.Refusals.{unless}
 use Rattle.zsrm.specs.Record.{blank}
-use Rattle.batch.specs.declared.Batch.{Batch}
+use Rattle.batch.specs.declared.answers.Batch.{Batch}
 use Rattle.batch.specs.declared.refusals.Found.{Found}
 use Rattle.batch.specs.Refusals.{checkBatch}
 use Rattle.batch.specs.Runs.{Offer, recordsOf, schedulesOf}

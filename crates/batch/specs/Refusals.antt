@@ -4,20 +4,20 @@ use mathlib.Core.Bool.{not, _||_}
 use mathlib.Core.List.{List}
 use lib.Dec.{ltb, eqb}
 use lib.ListN.{length}
-use Rattle.tables.specs.declared.outcome.Outcome.{Outcome}
-use Rattle.tables.specs.declared.outcome.Outcome.the-variants.{Done, Refused}
+use Rattle.tables.specs.declared.answers.Outcome.{Outcome}
+use Rattle.tables.specs.declared.answers.Outcome.the-variants.{Done, Refused}
 use Rattle.tables.specs.Refusals.{before, check9, checkJobs, checkTasks, refuse, unless}
 use Rattle.batch.specs.declared.refusals.Found.{Found}
 use Rattle.batch.specs.Runs.{jobsBefore, listOf}
 
 -- A refusal is named with its run; where nothing is refused, the number is 0.
-unfoldable pub named : ℕ → Outcome → Found
-named run Done = record { outcome = Done; run = 0 }
-named run (Refused number place) = record { outcome = Refused number place; run = run }
+unfoldable pub withRun : ℕ → Outcome → Found
+withRun run Done = record { outcome = Done; run = 0 }
+withRun run (Refused number place) = record { outcome = Refused number place; run = run }
 
 -- The first refusal goes first.
-unfoldable pub first : Found → Found → Found
-first found later = unless (found .outcome) (λ number place. found) later
+unfoldable pub goesFirst : Found → Found → Found
+goesFirst found later = unless (found .outcome) (λ number place. found) later
 
 -- 17: more than 32 runs, counts whose sum times three is not the flat list's length, or a schedule list not runs times horizon long
 unfoldable pub check17 : List ℕ → List ℕ → ℕ → ℕ → Outcome
@@ -30,8 +30,8 @@ check17 jobs counts horizon entries =
 module _ (tasks jobs counts : List ℕ) where
   -- the first n runs' own checks, run by run: 5 to 8 of their lists
   unfoldable pub checkRuns : ℕ → Found
-  checkRuns zero = named 0 Done
-  checkRuns (suc n) = first (checkRuns n) (named n (checkJobs tasks (listOf jobs counts n)))
+  checkRuns zero = withRun 0 Done
+  checkRuns (suc n) = goesFirst (checkRuns n) (withRun n (checkJobs tasks (listOf jobs counts n)))
 
   module _ (horizon entries : ℕ) where
     -- after the table checks and 9, before each run's own, in place of 10
@@ -40,4 +40,4 @@ module _ (tasks jobs counts : List ℕ) where
 
     -- If any list would be refused, the whole call gives the refusal of the first such run with its run number.
     unfoldable pub checkBatch : Found
-    checkBatch = first (named 0 checkCall) (checkRuns (length counts))
+    checkBatch = goesFirst (withRun 0 checkCall) (checkRuns (length counts))

@@ -51,11 +51,11 @@ module _ (o : Offer) where
   scheduleOf schedule r = runSchedule (givenOf r) Lowest (o .horizon) (placeOf (o .horizon) schedule r)
 
   -- Of n runs, the records of runs that there are not are blank.
-  unfoldable pub recordAt : List ℕ → ℕ → ℕ → Record
-  recordAt schedule n r = cond (ltb r n) (recordOf schedule r) blank
+  unfoldable pub recordOrBlank : List ℕ → ℕ → ℕ → Record
+  recordOrBlank schedule n r = cond (ltb r n) (recordOf schedule r) blank
 
   unfoldable pub recordsOf : List ℕ → ℕ → List Record
-  recordsOf schedule n = listFrom 0 32 (recordAt schedule n)
+  recordsOf schedule n = listFrom 0 32 (recordOrBlank schedule n)
 
   -- the schedules of n runs, one behind another
   unfoldable pub schedulesOf : List ℕ → ℕ → List ℕ

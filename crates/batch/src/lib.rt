@@ -8,17 +8,12 @@ use runs::no_records;
 use runs::run_lists;
 use zsrm::Mode;
 use zsrm::Outcome;
-use zsrm::Record;
 
+mod answers;
 mod refusals;
 mod runs;
 
-// The answer of a batch: the refused run's number, or 0; the records by the numbers of their runs, all others blank.
-pub struct Batch {
-    pub outcome: Outcome,
-    pub run: u32,
-    pub records: [Record; 32],
-}
+pub use answers::Batch;
 
 // Each run, with the lowest job number among equals, into its own place in the lent list. Refusals: the table's, 9 and 17 with run 0, then
 // 5 to 8 with the number of the first run whose list is refused; all are found before anything is written.

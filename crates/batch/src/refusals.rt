@@ -3,8 +3,8 @@ ghost use mathlib.Core.Path.{_≡_};
 ghost use Prim.Native.Nat.{_*_, _≤_};
 ghost use lib.ListN.{length};
 ghost use Rattle.batch.specs.Runs.{jobsBefore};
-ghost use Rattle.batch.specs.Refusals.{named, first, check17, checkCall, checkRuns, checkBatch};
-use crate::runs::numbers;
+ghost use Rattle.batch.specs.Refusals.{withRun, goesFirst, check17, checkCall, checkRuns, checkBatch};
+use crate::runs::list_length;
 use tables::before;
 use tables::check_jobs;
 use tables::check_tasks;
@@ -19,8 +19,8 @@ pub(crate) struct Found {
 }
 
 // A refusal is named with its run; where nothing is refused, the number is 0.
-fn named(run: u32, outcome: Outcome) -> Found
-    ensures { λ r. ⌜ r ≡ named run outcome ⌝ }
+fn with_run(run: u32, outcome: Outcome) -> Found
+    ensures { λ r. ⌜ r ≡ withRun run outcome ⌝ }
 {
     match outcome {
         Outcome::Done => Found {
@@ -35,8 +35,8 @@ fn named(run: u32, outcome: Outcome) -> Found
 }
 
 // The first refusal goes first.
-fn first(found: Found, later: Found) -> Found
-    ensures { λ r. ⌜ r ≡ first found later ⌝ }
+fn goes_first(found: Found, later: Found) -> Found
+    ensures { λ r. ⌜ r ≡ goesFirst found later ⌝ }
 {
     let outcome = found.outcome;
     match outcome {
@@ -92,13 +92,13 @@ fn check_runs(tasks: &[u32], jobs: &[u32], counts: &[u32]) -> Found
     requires { ⌜ jobsBefore (now counts) (length (now counts)) * 3 ≡ length (now jobs) ⌝ }
     ensures { λ r. ⌜ r ≡ checkRuns (now (tasks .entry)) (now (jobs .entry)) (now (counts .entry)) (length (now (counts .entry))) ⌝ }
 {
-    let mut found = named(0, Outcome::Done);
+    let mut found = with_run(0, Outcome::Done);
     let mut from: usize = 0;
     let mut r: usize = 0;
     while r < counts.len() {
-        let to = from + numbers(counts, r);
+        let to = from + list_length(counts, r);
         let own = check_jobs(tasks, &jobs[from..to]);
-        found = first(found, named(r as u32, own));
+        found = goes_first(found, with_run(r as u32, own));
         from = to;
         r += 1;
     }
@@ -118,6 +118,6 @@ pub(crate) fn check_batch(
     let call = check_call(tasks, jobs, counts, horizon, entries);
     match call {
         Outcome::Done => check_runs(tasks, jobs, counts),
-        Outcome::Refused(number, place) => named(0, Outcome::Refused(number, place)),
+        Outcome::Refused(number, place) => with_run(0, Outcome::Refused(number, place)),
     }
 }

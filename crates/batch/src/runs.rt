@@ -2,15 +2,12 @@
 ghost use mathlib.Core.Path.{_≡_};
 ghost use Prim.Native.Nat.{_*_, _<_};
 ghost use lib.ListN.{getD, length, replicate};
-ghost use Rattle.tables.specs.declared.outcome.Outcome.{Outcome};
+ghost use Rattle.tables.specs.declared.answers.Outcome.{Outcome};
 ghost use Rattle.zsrm.specs.Record.{blank};
 ghost use Rattle.batch.specs.Refusals.{check17};
 ghost use Rattle.batch.specs.Runs.{offer, recordsOf, schedulesOf};
-use zsrm::IDLE;
 use zsrm::Mode;
-use zsrm::Place;
 use zsrm::Record;
-use zsrm::Standing;
 use zsrm::Tie;
 use zsrm::run;
 
@@ -18,22 +15,12 @@ use zsrm::run;
 pub(crate) fn no_records() -> [Record; 32]
     ensures { λ r. ⌜ r ≡ replicate 32 blank ⌝ }
 {
-    let empty = Place {
-        done: 0,
-        suspended: 0,
-        waited: 0,
-        standing: Standing::NotArrived,
-    };
-    let blank = Record {
-        tick: 0,
-        previous: IDLE,
-        places: [empty; 64],
-    };
+    let blank = Record::blank();
     [blank; 32]
 }
 
 // How many numbers list r has: three for each of its jobs.
-pub(crate) fn numbers(counts: &[u32], r: usize) -> usize
+pub(crate) fn list_length(counts: &[u32], r: usize) -> usize
     requires { ⌜ r < length (now counts) ⌝ }
     ensures { λ n. ⌜ n ≡ getD (now (counts .entry)) r 0 * 3 ⌝ }
 {
@@ -51,14 +38,15 @@ pub(crate) fn run_lists(
 ) -> [Record; 32]
     requires { ⌜ check17 (now jobs) (now counts) horizon (length (now schedule)) ≡ Outcome.Done ⌝ }
     ensures records { λ r. ⌜ r ≡ recordsOf (offer mode (now (tasks .entry)) (now (jobs .entry)) (now (counts .entry)) horizon) (now (schedule .entry)) (length (now (counts .entry))) ⌝ }
-    ensures writes { λ r. ⌜ now (schedule .exit) ≡ schedulesOf (offer mode (now (tasks .entry)) (now (jobs .entry)) (now (counts .entry)) horizon) (now (schedule .entry)) (length (now (counts .entry))) ⌝ }
+    ensures writes { λ r. ⌜ now (schedule .exit) ≡ schedulesOf
+        (offer mode (now (tasks .entry)) (now (jobs .entry)) (now (counts .entry)) horizon) (now (schedule .entry)) (length (now (counts .entry))) ⌝ }
 {
     let mut records = no_records();
     let mut from: usize = 0;
     let mut at: usize = 0;
     let mut r: usize = 0;
     while r < counts.len() {
-        let to = from + numbers(counts, r);
+        let to = from + list_length(counts, r);
         let end = at + (horizon as usize);
         let own = run(
             mode,

@@ -1,7 +1,3 @@
-pub mod Bools
-pub mod Below
-pub mod Most
-pub mod Word
+pub mod Laws
 pub mod Readings
-pub mod Arrays
 pub mod Unique

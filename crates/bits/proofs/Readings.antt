@@ -8,9 +8,9 @@ use native.Mathlib.Nat.{not-suc-le-zero}
 use lib.Dec.{leb, ltb, eqb}
 use borrow.Author.Tests.{ltb-true, ltb-false, leb-true, eqb-true, lt-ltb, le-ltb, le-leb, eq-eqb, not-true}
 use Rattle.bits.specs.Below.{some, every, least, greatest}
-use Rattle.bits.proofs.Bools.{either, clash, fails, and-left, and-right, and-true, and-false, not-of, or-cases, or-left, or-right}
-use Rattle.bits.proofs.Below.{some-true, some-found, some-false, none-passes, every-at, every-true, least-none, least-found, least-is, last-or-below, greatest-none}
-use Rattle.bits.proofs.Most.{greatest-is, greatest-found}
+use Rattle.bits.proofs.Laws.Bools.{either, clash, never-true, and-left, and-right, and-true, and-false, not-of, or-cases, or-left, or-right}
+use Rattle.bits.proofs.Laws.Below.{some-true, some-found, some-false, none-passes, every-at, every-true, least-none, least-found, least-is, last-or-below, greatest-none}
+use Rattle.bits.proofs.Laws.Most.{greatest-is, greatest-found}
 
 pub lt-reads : (x y : ℕ) → ltb x y ≡ true ↔ x < y
 lt-reads x y = (ltb-true x y, lt-ltb x y)
@@ -41,7 +41,7 @@ module _ {a b : Bool} {A B : Type 0} where
 
 -- the second test fails wherever the first passes
 pub and-fails : {a b : Bool} {B : Type 0} → (b ≡ false ↔ B) → (a && b) ≡ false ↔ (a ≡ true → B)
-and-fails {a} {b} q = (λ h p. q .0 (and-false p h), λ w. fails (a && b) (λ h. clash (and-right a b h) (q .1 (w (and-left a b h)))))
+and-fails {a} {b} q = (λ h p. q .0 (and-false p h), λ w. never-true (a && b) (λ h. clash (and-right a b h) (q .1 (w (and-left a b h)))))
 
 module _ {f : ℕ → Bool} {P : ℕ → Type 0} (n : ℕ) where
   pub some-reads : ((i : ℕ) → f i ≡ true ↔ P i) → some n f ≡ true ↔ ((i : ℕ) × (i < n) × P i)
@@ -57,7 +57,7 @@ module _ {f : ℕ → Bool} {P : ℕ → Type 0} (n : ℕ) where
 -- where d is no number below the bound, the search gives d exactly when none passes
 pub least-none-reads : (f : ℕ → Bool) (n d : ℕ) → n ≤ d → least n f d ≡ d ↔ ((i : ℕ) → i < n → f i ≡ false)
 least-none-reads f n d m =
-    (λ e i l. some-false f n i l (fails (some n f) (λ s. omega (arith, least-found f n d s))), λ w. least-none f n d (none-passes f n w))
+    (λ e i l. some-false f n i l (never-true (some n f) (λ s. omega (arith, least-found f n d s))), λ w. least-none f n d (none-passes f n w))
 
 -- no number that passes is below the least
 least-le : (f : ℕ → Bool) (n d k : ℕ) → k < n → f k ≡ true → least n f d ≤ k
@@ -80,7 +80,7 @@ module _ (f : ℕ → Bool) (n d k : ℕ) (l : k < n) (m : n ≤ d) where
   least-reads = (
     λ e. (
       ap f (sym e) ∙ least-found f n d (passes (λ s. omega (arith, least-none f n d s))) .1,
-      λ i b. fails (f i) (λ p. omega (arith, least-le f n d i (omega arith) p)),
+      λ i b. never-true (f i) (λ p. omega (arith, least-le f n d i (omega arith) p)),
     ),
     λ w. least-is f n d k l (none-passes f k (w .1)) (w .0),
   )
@@ -90,7 +90,7 @@ module _ (f : ℕ → Bool) (n d k : ℕ) (l : k < n) (m : n ≤ d) where
   greatest-reads = (
     λ e. let x = some-found f n (passes (λ s. omega (arith, greatest-none f n d s))) in
         let w = rw e at (greatest-found f n d (x .0) (x .1) (x .2)) in
-        (w .passes, λ i a b. fails (f i) (λ p. omega (arith, w .tops i b p))),
+        (w .passes, λ i a b. never-true (f i) (λ p. omega (arith, w .tops i b p))),
     λ w. greatest-is f n d k
-        (record { below = l; passes = w .0; tops = λ i b p. ltb-false k i (fails (ltb k i) (λ h. clash p (w .1 i (ltb-true k i h) b))) }),
+        (record { below = l; passes = w .0; tops = λ i b p. ltb-false k i (never-true (ltb k i) (λ h. clash p (w .1 i (ltb-true k i h) b))) }),
   )

@@ -1,9 +1,9 @@
--- Tests over the numbers below a bound: what "some", "every", "the lowest", "the nearest below", "how many" and "bit p is set exactly
--- when" are written with. Each test takes its last number first, so that an upward loop's next turn is its definition's own clause.
+-- Tests over the numbers below a bound: what "some", "every", "the lowest", "the nearest below", "how many", "the sum", "the greatest
+-- key" and "bit p is set exactly when" are written with. Each test takes its last number first, so that an upward loop's next turn is its definition's own clause.
 use Prim.Native.Nat.{ℕ, zero, suc, _+_, _/_, _%_, _^_}
 use mathlib.Core.Bool.{Bool, true, false, _&&_, _||_, cond}
 use mathlib.Core.List.{List, [], _∷_}
-use lib.Dec.{eqb}
+use lib.Dec.{eqb, ltb}
 
 -- some number below the bound passes
 unfoldable pub some : ℕ → (ℕ → Bool) → Bool
@@ -29,6 +29,16 @@ greatest (suc n) f d = cond (f n) n (greatest n f d)
 unfoldable pub count : ℕ → (ℕ → Bool) → ℕ
 count zero f = 0
 count (suc n) f = cond (f n) 1 0 + count n f
+
+-- f 0 + f 1 + .., of n values
+unfoldable pub sumBelow : ℕ → (ℕ → ℕ) → ℕ
+sumBelow zero f = 0
+sumBelow (suc n) f = f n + sumBelow n f
+
+-- the greatest key among the numbers below the bound that pass, 0 where none does
+unfoldable pub greatestKey : ℕ → (ℕ → Bool) → (ℕ → ℕ) → ℕ
+greatestKey zero f key = 0
+greatestKey (suc n) f key = cond (f n && ltb (greatestKey n f key) (key n)) (key n) (greatestKey n f key)
 
 -- the word whose bit p is set exactly when p is below the bound and passes
 unfoldable pub word : ℕ → (ℕ → Bool) → ℕ

@@ -1,5 +1,5 @@
-// 64-bit words: a bit set, the ones, the highest bit.
-// Each function has one answer for every input, and `proofs/Word.antt` has the laws by which a caller reads it.
+// 64-bit words: a bit set, the ones, the highest bit; and the number of a test.
+// Each function has one answer for every input, and `proofs/Laws/Word.antt` has the laws by which a caller reads it.
 ghost use mathlib.Core.Path.{_≡_};
 ghost use mathlib.Core.Bool.{cond};
 ghost use Rattle.bits.specs.Below.{count, greatest, bit};
@@ -48,4 +48,11 @@ pub fn highest(w: u64) -> u32
         return 64;
     }
     63 - u64::leading_zeros(w)
+}
+
+// 1 where the test passes, else 0.
+pub fn one_if(test: bool) -> u32
+    ensures { λ r. ⌜ r ≡ cond test 1 0 ⌝ }
+{
+    if test { 1 } else { 0 }
 }

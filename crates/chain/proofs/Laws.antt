@@ -1,5 +1,4 @@
 -- The laws, one file per notion: proved once, and cited from then on.
-pub mod Bytes
 pub mod Refusals
 pub mod Table
 pub mod Reading

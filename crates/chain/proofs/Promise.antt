@@ -5,7 +5,7 @@
 -- contract. `trailerAt file at` is what the 16 bytes at a place say, and `readAt reader file used at` what is read of them: what `last` answers
 -- at the last 16 bytes, and `read` at every place but `none`, which is 4,294,967,295. `lastPlace used` is the place of the last trailer, none
 -- where no byte is used, and `endAfter used n` where a table of n numbers and its trailer end. An answer with nothing told is `nothing`,
--- one that is refused but told of `passed`, one that shows its table `shown`. `Whole` and `Kept` are what 21 and 22 ask for, `Numbers` that
+-- one that is refused but told of `passedBy`, one that shows its table `shown`. `WholeTrailer` and `Kept` are what 21 and 22 ask for, `Within32` that
 -- numbers are of 32 bits, and `Each` that those of every table are, as those of a lent table always are; so are bytes below 256, as `far-place`
 -- asks. `..Said` says an answer in numbers.
 use Prim.Native.Nat.{ℕ, _+_, _-_, _*_, _/_, _<_, _≤_}
@@ -17,8 +17,9 @@ use native.Mathlib.Nat.{zero-mul}
 use native.Mathlib.Omega.{arith}
 use lib.ListN.{getD, length, replicate}
 use lib.Seq.{sets}
-use Rattle.tables.specs.declared.outcome.Outcome.{Outcome}
-use Rattle.tables.specs.declared.outcome.Outcome.the-variants.{Done, Refused}
+use Rattle.bits.proofs.Laws.Bools.{apart}
+use Rattle.tables.specs.declared.answers.Outcome.{Outcome}
+use Rattle.tables.specs.declared.answers.Outcome.the-variants.{Done, Refused}
 use Rattle.tables.specs.Refusals.{before}
 use Rattle.tables.specs.Said.{done, outcomeSaid, refused}
 use Rattle.tables.proofs.Laws.Said.{outcome-said}
@@ -27,21 +28,22 @@ use Rattle.chain.specs.declared.answers.Read.{Read}
 use Rattle.chain.specs.declared.layout.Known.the-variants.{Is, Unknown}
 use Rattle.chain.specs.declared.layout.Layout.{Layout}
 use Rattle.chain.specs.declared.layout.Layout.the-variants.{One, Two}
-use Rattle.chain.specs.Answers.{appendAnswer, appendFile, lastAnswer, newTrailer, nothing, passed, readAnswer, readAt, shown}
-use Rattle.chain.specs.Bytes.{bytesOf}
+use Rattle.chain.specs.Answers.{appendAnswer, appendFile, lastAnswer, newTrailer, nothing, passedBy, readAnswer, readAt, shown}
+use Rattle.tables.specs.Bytes.{bytesOf}
 use Rattle.chain.specs.Layout.{known, numberOf, width}
 use Rattle.chain.specs.Refusals.{checkAppend, checkLast, checkTrailer, endAfter}
-use Rattle.chain.specs.Said.{appendedSaid, upTo}
+use Rattle.chain.specs.Said.{appendedSaid, usedLength}
 use Rattle.chain.specs.Table.{checkTable, padded, tableOf}
 use Rattle.chain.specs.Trailer.{lastPlace, misfits, none, trailerAt}
-use Rattle.chain.specs.Walk.{Table, ahead, opened, season, told, toldOf, walk}
-use Rattle.chain.proofs.Laws.Appended.{Numbers, above-after, below-after, length-after, read-known, read-unknown}
-use Rattle.chain.proofs.Laws.Appending.{answers-refused, answers-used, last-checked, last-is, last-none, new-checked, written}
-use Rattle.chain.proofs.Laws.Cases.{either-empty, either-unused, fills-known, full, last-few, last-numbers, not-whole, number-most, passing, past-numbers, trailer-21, trailer-22, trailer-done, unread-last, whole-not-21, whole-numbers, whole-or}
+use Rattle.chain.specs.Walk.{Table, ahead, opened, appendAll, contents, contentsOf, walk}
+use Rattle.chain.proofs.Laws.Appended.{Within32, above-after, below-after, length-after, read-known, read-unknown}
+use Rattle.chain.proofs.Laws.Appending.{answers-refused, answers-used, last-checked, last-is, last-none, new-checked, appendedNumbers}
+use Rattle.chain.proofs.Laws.Cases.{either-empty, either-unused, fills-known, full, last-few, last-numbers, not-whole, number-most}
+use Rattle.chain.proofs.Laws.Cases.{append-passes, past-numbers, trailer-21, trailer-22, trailer-done, unread-last, whole-not-21, whole-numbers, whole-or}
 use Rattle.chain.proofs.Laws.Reading.{by-acceptance, by-refusal, last-short, last-there, read-none, read-nothing, read-there, read-trailer, trailer-unknown}
-use Rattle.chain.proofs.Laws.Refusals.{Kept, Whole, end-of-place}
+use Rattle.chain.proofs.Laws.Refusals.{Kept, WholeTrailer, end-of-place}
 use Rattle.chain.proofs.Laws.Said.{appended-said}
-use Rattle.chain.proofs.Laws.Same.{goes-back, read-same, read-told, there-back}
+use Rattle.chain.proofs.Laws.Same.{goes-back, read-same, read-contents, there-back}
 use Rattle.chain.proofs.Laws.Season.{Each, Took, next-checked, opened-good, refused-by, refused-keeps, season-good, took}
 use Rattle.chain.proofs.Laws.Table.{length-numbers, many-refused, none-refused}
 use Rattle.chain.proofs.Laws.Walk.{ahead-less, length-walk, walk-none, walk-on}
@@ -73,7 +75,7 @@ module _ (reader : Layout) (file : List ℕ) (used : ℕ) where
 module _ (reader : Layout) (file : List ℕ) (used at : ℕ) where
   -- 21, exactly where the used length passes the list, or no whole trailer lies at the place. Nothing is told, and there is no trailer to go
   -- on to.
-  pub no-trailer : (Whole (length file) used at → ⊥) → readAt reader file used at ≡ nothing 21 0
+  pub no-trailer : (WholeTrailer (length file) used at → ⊥) → readAt reader file used at ≡ nothing 21 0
   no-trailer never = read-nothing reader file used at (Refused 21 0) (sym (trailer-21 reader file used at never)) 21 0 refl
 
   pub no-trailer-exactly : outcomeSaid (readAt reader file used at .outcome) ≡ refused 21 0 ↔ (length file < used) ⊎ (used < at + 16)
@@ -84,7 +86,7 @@ module _ (reader : Layout) (file : List ℕ) (used at : ℕ) where
   )
 
   -- Where a whole trailer lies at the place ..
-  module _ (whole : Whole (length file) used at) where
+  module _ (whole : WholeTrailer (length file) used at) where
     -- .. 21 is not given: a refusal is 22, 23 or 2 to 4.
     pub whole-refusals : (number place : ℕ) → outcomeSaid (readAt reader file used at .outcome) ≡ refused number place
         → (number ≡ 22) ⊎ (number ≡ 23) ⊎ ((2 ≤ number) × (number ≤ 4))
@@ -113,25 +115,25 @@ module _ (reader : Layout) (file : List ℕ) (used at : ℕ) where
       passes = trailer-done reader file used at whole kept
 
       -- .. its layout and the preceding trailer are told, whatever is found of its table.
-      pub told-of : (readAt reader file used at .layout ≡ trailerAt file at .layout) × (readAt reader file used at .before ≡ trailerAt file at .before)
-      told-of = read-told reader file used at passes
+      pub contents-of : (readAt reader file used at .layout ≡ trailerAt file at .layout) × (readAt reader file used at .before ≡ trailerAt file at .before)
+      contents-of = read-contents reader file used at passes
 
       -- A layout that the reader does not know is 23, with the layout as the place, and no fields.
-      pub other-layout : known reader (trailerAt file at .layout) ≡ Unknown → readAt reader file used at ≡ passed (trailerAt file at) 23 (trailerAt file at .layout)
+      pub other-layout : known reader (trailerAt file at .layout) ≡ Unknown → readAt reader file used at ≡ passedBy (trailerAt file at) 23 (trailerAt file at .layout)
       other-layout not-known =
           read-trailer reader file used at Done (sym passes) refl ∙ sym (trailer-unknown reader file (trailerAt file at) Unknown (sym not-known) refl)
 
       -- In one that it knows, the table is refused with 2, 3 or 4, as document 01 has them for its seven numbers per task ..
       module _ (layout : Layout) (knows : known reader (trailerAt file at .layout) ≡ Is layout) where
         pub table-refused : (number place : ℕ) → outcomeSaid (checkTable layout (tableOf (Is layout) file (trailerAt file at))) ≡ refused number place
-            → readAt reader file used at ≡ passed (trailerAt file at) number place
+            → readAt reader file used at ≡ passedBy (trailerAt file at) number place
         unfolding outcomeSaid
         table-refused number place says =
             read-trailer reader file used at Done (sym passes) refl
             ∙ by-refusal reader file (trailerAt file at) layout knows number place (outcome-said _ (Refused number place) says)
 
         -- .. 2 where the count is 0 or over 16 ..
-        pub count-refused : (trailerAt file at .count ≡ 0) ⊎ (16 < trailerAt file at .count) → readAt reader file used at ≡ passed (trailerAt file at) 2 0
+        pub count-refused : (trailerAt file at .count ≡ 0) ⊎ (16 < trailerAt file at .count) → readAt reader file used at ≡ passedBy (trailerAt file at) 2 0
         unfolding outcomeSaid tableOf
         count-refused few-or-many =
             let t = trailerAt file at in
@@ -222,14 +224,15 @@ former-last used = (last-none used, last-is used)
 module _ (layout : Layout) (file : List ℕ) (used : ℕ) (table : List ℕ) where
   -- A table is taken exactly where the last trailer and the table pass their checks, and the end passes neither the lent list nor
   -- 4,294,967,295; the answer is that end.
-  pub taken-exactly : (end : ℕ) → appendedSaid (appendAnswer layout file used table) ≡ upTo end
+  pub taken-exactly : (end : ℕ) → appendedSaid (appendAnswer layout file used table) ≡ usedLength end
       ↔ (outcomeSaid (checkLast file used) ≡ done) × (outcomeSaid (checkTable layout table) ≡ done) × (end ≡ endAfter used (length table)) × (end ≤ length file) × (end ≤ 4294967295)
   unfolding appendedSaid outcomeSaid
   taken-exactly end = (
     λ says. let w = took layout file used table end (appended-said _ (appends.Used end) says) in
         (ap outcomeSaid (w .checks .last), ap outcomeSaid (w .checks .numbers), w .ends, omega (arith, w .ends, w .checks .space .listed), omega (arith, w .ends, w .checks .space .placed)),
     λ w. ap appendedSaid (sym (answers-used layout file used table Done
-        (sym (passing layout file used table (record { last = outcome-said _ Done (w .0); numbers = outcome-said _ Done (w .1); space = record { listed = omega (arith, w .2, w .3); placed = omega (arith, w .2, w .4) } })))
+        (sym (append-passes layout file used table
+        (record { last = outcome-said _ Done (w .0); numbers = outcome-said _ Done (w .1); space = record { listed = omega (arith, w .2, w .3); placed = omega (arith, w .2, w .4) } })))
         end refl (w .2))),
   )
 
@@ -239,11 +242,11 @@ module _ (layout : Layout) (file : List ℕ) (used : ℕ) (table : List ℕ) whe
   last-refused number place e =
       ap appendedSaid (sym (answers-refused layout file used table (Refused number place) (sym (rw e)) number place refl))
 
-  pub last-21 : (used ≡ 0 → ⊥) → (Whole (length file) used (used - 16) → ⊥) → appendedSaid (appendAnswer layout file used table) ≡ refused 21 0
+  pub last-21 : (used ≡ 0 → ⊥) → (WholeTrailer (length file) used (used - 16) → ⊥) → appendedSaid (appendAnswer layout file used table) ≡ refused 21 0
   last-21 some never =
       last-refused 21 0 (last-checked file used some ∙ ap (checkTrailer Two file used) (last-is used some) ∙ trailer-21 Two file used (used - 16) never)
 
-  pub last-22 : (used ≡ 0 → ⊥) → Whole (length file) used (used - 16) → (Kept Two (trailerAt file (used - 16)) (used - 16) → ⊥)
+  pub last-22 : (used ≡ 0 → ⊥) → WholeTrailer (length file) used (used - 16) → (Kept Two (trailerAt file (used - 16)) (used - 16) → ⊥)
       → appendedSaid (appendAnswer layout file used table) ≡ refused 22 0
   last-22 some whole never =
       last-refused 22 0 (last-checked file used some ∙ ap (checkTrailer Two file used) (last-is used some) ∙ trailer-22 Two file used (used - 16) whole never)
@@ -293,7 +296,7 @@ module _ (layout : Layout) (file : List ℕ) (used : ℕ) (table : List ℕ) whe
       go : (o : Outcome) → checkLast file used ≡ o → outcomeSaid o ≡ done
       go Done e = refl
       go (Refused number place) e =
-          let some : used ≡ 0 → ⊥ = λ z. let new = new-checked file used z in let q : _≡_ {A = ℕ} 0 1 = cc in omega arith in
+          let some : used ≡ 0 → ⊥ = λ z. let new = new-checked file used z in apart (cc) in
           let check : checkTrailer Two file used (used - 16) ≡ Refused number place = ap (checkTrailer Two file used) (sym (last-is used some)) ∙ sym (last-checked file used some) ∙ e in
           let says = ap (λ (r : Read). outcomeSaid (r .outcome)) (read-nothing Two file used (used - 16) (Refused number place) (sym check) number place refl) in
           let w = last-numbers file used number place e in
@@ -309,7 +312,7 @@ module _ (layout : Layout) (file : List ℕ) (used : ℕ) (table : List ℕ) whe
   refused-writes-nothing number place says = refused-keeps layout file used table number place (appended-said _ (appends.Refused number place) says)
 
   -- Where the table is taken, up to byte `end` ..
-  module _ (end : ℕ) (says : appendedSaid (appendAnswer layout file used table) ≡ upTo end) where
+  module _ (end : ℕ) (says : appendedSaid (appendAnswer layout file used table) ≡ usedLength end) where
     is : Took layout file used table end
     unfolding appendedSaid
     is = took layout file used table end (appended-said _ (appends.Used end) says)
@@ -328,17 +331,19 @@ module _ (layout : Layout) (file : List ℕ) (used : ℕ) (table : List ℕ) whe
     pub earlier-same : (reader : Layout) (at : ℕ) → at + 16 ≤ used → readAnswer reader (appendFile layout file used table) end at ≡ readAnswer reader file used at
     earlier-same reader at there =
         let space = is .checks .space in
-        sym (read-same file (appendFile layout file used table) at (λ i l. sym (bytes-before i (omega arith))) reader used end there (omega (arith, space .listed)) (omega (arith, is .ends)) (omega (arith, is .ends, space .listed, same-length)))
+        sym (read-same file (appendFile layout file used table) at (λ i l. sym (bytes-before i (omega arith))) reader used
+        end there (omega (arith, space .listed)) (omega (arith, is .ends)) (omega (arith, is .ends, space .listed, same-length)))
 
     at-the-end : (reader : Layout) → lastAnswer reader (appendFile layout file used table) end
-        ≡ readAnswer reader (sets file used (bytesOf (written layout file used table))) (endAfter used (length table)) (used + length table * 4)
+        ≡ readAnswer reader (sets file used (bytesOf 4 (appendedNumbers layout file used table))) (endAfter used (length table)) (used + length table * 4)
     at-the-end reader =
         last-is-read reader (appendFile layout file used table) end (λ e. omega (arith, is .ends, is .checks .space .placed))
         ∙ ap₂ (λ (f : List ℕ) (e : ℕ). readAnswer reader f e (e - 16)) (is .wrote) (is .ends)
-        ∙ ap (readAnswer reader (sets file used (bytesOf (written layout file used table))) (endAfter used (length table))) (let e : endAfter used (length table) - 16 ≡ used + length table * 4 = omega arith in e)
+        ∙ ap (readAnswer reader (sets file used (bytesOf 4 (appendedNumbers layout file used table))) (endAfter used (length table)))
+        (let e : endAfter used (length table) - 16 ≡ used + length table * 4 = omega arith in e)
 
     -- .. a reader that knows the layout reads at the new end the table, its count, and the former last trailer ..
-    pub reads-back : (reader : Layout) → known reader (numberOf layout) ≡ Is layout → Numbers table
+    pub reads-back : (reader : Layout) → known reader (numberOf layout) ≡ Is layout → Within32 table
         → lastAnswer reader (appendFile layout file used table) end
         ≡ record { outcome = Done; layout = numberOf layout; before = lastPlace used; count = length table / width layout; fields = padded 128 table }
     unfolding shown newTrailer
@@ -348,7 +353,7 @@ module _ (layout : Layout) (file : List ℕ) (used : ℕ) (table : List ℕ) whe
     pub reads-past : (reader : Layout) → known reader (numberOf layout) ≡ Unknown
         → lastAnswer reader (appendFile layout file used table) end
         ≡ record { outcome = Refused 23 (numberOf layout); layout = numberOf layout; before = lastPlace used; count = 0; fields = replicate 128 0 }
-    unfolding passed newTrailer
+    unfolding passedBy newTrailer
     reads-past reader not-known = at-the-end reader ∙ read-unknown layout file used table (is .checks) reader not-known
 
     -- .. and the next append is refused by its table or its room alone.
@@ -371,11 +376,11 @@ one-knows = (refl, refl)
 -- After any appends to a new file in any lent list, refused ones among them, the walk from its end tells either reader of the tables that were
 -- taken, the last first, and then ends: each table with its count, or 23 for one of layout 2 to a reader of layout 1.
 pub all-read-back : (lent : List ℕ) (tables : List Table) → Each tables → (reader : Layout)
-    → map told (walk reader (season (opened lent) tables .bytes) (season (opened lent) tables .used) (lastPlace (season (opened lent) tables .used)))
-    ≡ map (toldOf reader) (season (opened lent) tables .taken)
+    → map contents (walk reader (appendAll (opened lent) tables .bytes) (appendAll (opened lent) tables .used) (lastPlace (appendAll (opened lent) tables .used)))
+    ≡ map (contentsOf reader) (appendAll (opened lent) tables .tablesTaken)
 all-read-back lent tables small reader = season-good (opened lent) tables small (opened-good lent) .walks reader
 
 -- And an append to such a file is refused by its table or its room alone.
-pub goes-on : (lent : List ℕ) (tables : List Table) → Each tables → outcomeSaid (checkLast (season (opened lent) tables .bytes) (season (opened lent) tables .used)) ≡ done
+pub appends-go-on : (lent : List ℕ) (tables : List Table) → Each tables → outcomeSaid (checkLast (appendAll (opened lent) tables .bytes) (appendAll (opened lent) tables .used)) ≡ done
 unfolding outcomeSaid
-goes-on lent tables small = ap outcomeSaid (season-good (opened lent) tables small (opened-good lent) .last)
+appends-go-on lent tables small = ap outcomeSaid (season-good (opened lent) tables small (opened-good lent) .last)

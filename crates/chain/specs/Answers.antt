@@ -5,7 +5,7 @@ use mathlib.Core.List.{List, _++_}
 use lib.Dec.{eqb}
 use lib.ListN.{length, replicate}
 use lib.Seq.{sets}
-use Rattle.tables.specs.declared.outcome.Outcome.the-variants.{Done, Refused}
+use Rattle.tables.specs.declared.answers.Outcome.the-variants.{Done, Refused}
 use Rattle.tables.specs.Refusals.{unless}
 use Rattle.chain.specs.declared.answers.Appended.{Appended}
 use Rattle.chain.specs.declared.answers.Appended.the-variants as appends
@@ -13,7 +13,7 @@ use Rattle.chain.specs.declared.answers.Read.{Read}
 use Rattle.chain.specs.declared.layout.Known.{Known}
 use Rattle.chain.specs.declared.layout.Layout.{Layout}
 use Rattle.chain.specs.declared.trailer.Trailer.{Trailer}
-use Rattle.chain.specs.Bytes.{bytesOf}
+use Rattle.tables.specs.Bytes.{bytesOf}
 use Rattle.chain.specs.Layout.{known, numberOf, width}
 use Rattle.chain.specs.Refusals.{checkAppend, checkShown, checkTrailer, endAfter}
 use Rattle.chain.specs.Table.{padded, tableOf}
@@ -24,8 +24,8 @@ unfoldable pub nothing : ℕ → ℕ → Read
 nothing number place = record { outcome = Refused number place; layout = 0; before = none; count = 0; fields = replicate 128 0 }
 
 -- After every other refusal reading can go on to the table before it; there are no fields.
-unfoldable pub passed : Trailer → ℕ → ℕ → Read
-passed t number place = record { outcome = Refused number place; layout = t .layout; before = t .before; count = 0; fields = replicate 128 0 }
+unfoldable pub passedBy : Trailer → ℕ → ℕ → Read
+passedBy t number place = record { outcome = Refused number place; layout = t .layout; before = t .before; count = 0; fields = replicate 128 0 }
 
 -- Where nothing is refused, the table.
 unfoldable pub shown : Trailer → List ℕ → Read
@@ -33,7 +33,7 @@ shown t table = record { outcome = Done; layout = t .layout; before = t .before;
 
 -- what is read of a trailer whose places keep the rules: in a layout that the reader knows or not
 unfoldable pub readTable : Known → List ℕ → Trailer → Read
-readTable layout file t = unless (checkShown layout file t) (passed t) (shown t (tableOf layout file t))
+readTable layout file t = unless (checkShown layout file t) (passedBy t) (shown t (tableOf layout file t))
 
 unfoldable pub readTrailer : Layout → List ℕ → Trailer → Read
 readTrailer reader file t = readTable (known reader (t .layout)) file t
@@ -63,4 +63,4 @@ module _ (layout : Layout) (file : List ℕ) (used : ℕ) (table : List ℕ) whe
   unfoldable pub appendFile : List ℕ
   appendFile =
       unless (checkAppend layout file used table) (λ number place. file)
-      (sets file used (bytesOf (table ++ trailerNumbers (newTrailer layout used (length table)))))
+      (sets file used (bytesOf 4 (table ++ trailerNumbers (newTrailer layout used (length table)))))

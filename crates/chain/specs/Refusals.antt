@@ -4,8 +4,8 @@ use mathlib.Core.Bool.{_||_, cond}
 use mathlib.Core.List.{List}
 use lib.Dec.{eqb, ltb}
 use lib.ListN.{length}
-use Rattle.tables.specs.declared.outcome.Outcome.{Outcome}
-use Rattle.tables.specs.declared.outcome.Outcome.the-variants.{Done, Refused}
+use Rattle.tables.specs.declared.answers.Outcome.{Outcome}
+use Rattle.tables.specs.declared.answers.Outcome.the-variants.{Done, Refused}
 use Rattle.tables.specs.Refusals.{before, refuse}
 use Rattle.chain.specs.declared.layout.Known.{Known}
 use Rattle.chain.specs.declared.layout.Known.the-variants.{Is, Unknown}

@@ -5,9 +5,9 @@ use Rattle.tables.specs.Said.{refused}
 use Rattle.chain.specs.declared.answers.Appended.{Appended}
 use Rattle.chain.specs.declared.answers.Appended.the-variants.{Refused, Used}
 
-abbrev pub upTo : ℕ → List ℕ
-upTo bytes = bytes ∷ []
+abbrev pub usedLength : ℕ → List ℕ
+usedLength bytes = bytes ∷ []
 
 unfoldable pub appendedSaid : Appended → List ℕ
 appendedSaid (Refused number place) = refused number place
-appendedSaid (Used bytes) = upTo bytes
+appendedSaid (Used bytes) = usedLength bytes

@@ -5,7 +5,7 @@ use mathlib.Core.List.{List, []}
 use lib.Dec.{eqb}
 use lib.ListN.{getD, length}
 use Rattle.bits.specs.Below.{listFrom}
-use Rattle.tables.specs.declared.outcome.Outcome.{Outcome}
+use Rattle.tables.specs.declared.answers.Outcome.{Outcome}
 use Rattle.tables.specs.Bytes.{numberAt}
 use Rattle.tables.specs.Refusals.{before, checkTasks, refuse}
 use Rattle.chain.specs.declared.layout.Known.{Known}
@@ -17,7 +17,7 @@ use Rattle.chain.specs.Layout.{width}
 
 -- n numbers from a byte place on
 unfoldable pub numbersFrom : List ℕ → ℕ → ℕ → List ℕ
-numbersFrom file start n = listFrom 0 n (λ i. numberAt file (start + i * 4))
+numbersFrom file start n = listFrom 0 n (λ i. numberAt 4 file (start + i * 4))
 
 -- a trailer's table, in the layout that the reader knows it to have; of any other no fields
 unfoldable pub tableOf : Known → List ℕ → Trailer → List ℕ

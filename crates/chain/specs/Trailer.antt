@@ -1,5 +1,5 @@
 -- "Each followed by a trailer: byte place of its table's start, byte place of the preceding trailer (4,294,967,295 for none), layout number,
--- count of tasks."
+-- count of tasks. Every number is 32-bit little-endian": of the crate `tables`, `numberAt 4` and, written, `bytesOf 4`.
 use Prim.Native.Nat.{ℕ, _+_, _-_, _*_}
 use mathlib.Core.Bool.{Bool, false, not, cond}
 use mathlib.Core.List.{List, [], _∷_}
@@ -18,10 +18,10 @@ none = 4294967295
 unfoldable pub trailerAt : List ℕ → ℕ → Trailer
 trailerAt file at =
     record {
-      start = numberAt file at;
-      before = numberAt file (at + 4);
-      layout = numberAt file (at + 8);
-      count = numberAt file (at + 12);
+      start = numberAt 4 file at;
+      before = numberAt 4 file (at + 4);
+      layout = numberAt 4 file (at + 8);
+      count = numberAt 4 file (at + 12);
     }
 
 -- its four numbers, in this order

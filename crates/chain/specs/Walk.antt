@@ -5,8 +5,8 @@ use mathlib.Core.Bool.{true, false, cond}
 use mathlib.Core.List.{List, [], _∷_}
 use lib.Dec.{eqb}
 use lib.ListN.{length, replicate}
-use Rattle.tables.specs.declared.outcome.Outcome.{Outcome}
-use Rattle.tables.specs.declared.outcome.Outcome.the-variants.{Done, Refused}
+use Rattle.tables.specs.declared.answers.Outcome.{Outcome}
+use Rattle.tables.specs.declared.answers.Outcome.the-variants.{Done, Refused}
 use Rattle.chain.specs.declared.answers.Appended.{Appended}
 use Rattle.chain.specs.declared.answers.Appended.the-variants as appends
 use Rattle.chain.specs.declared.answers.Read.{Read}
@@ -33,14 +33,14 @@ unfoldable pub ahead : ℕ → ℕ
 ahead at = cond (eqb at none) 0 (at + 16)
 
 -- what is told of one table beside the place to go on to
-pub record Told : Type 0 where
+pub record Contents : Type 0 where
   pub outcome : Outcome
   pub layout : ℕ
   pub count : ℕ
   pub fields : List ℕ
 
-unfoldable pub told : Read → Told
-told r = record { outcome = r .outcome; layout = r .layout; count = r .count; fields = r .fields }
+unfoldable pub contents : Read → Contents
+contents r = record { outcome = r .outcome; layout = r .layout; count = r .count; fields = r .fields }
 
 -- A table of a caller, in its layout.
 pub record Table : Type 0 where
@@ -48,33 +48,33 @@ pub record Table : Type 0 where
   pub numbers : List ℕ
 
 -- what a reader is told of it: the table, or 23
-unfoldable pub tells : Known → Table → Told
-tells (Is _) t =
+unfoldable pub contentsTo : Known → Table → Contents
+contentsTo (Is _) t =
     record { outcome = Done; layout = numberOf (t .layout); count = length (t .numbers) / width (t .layout); fields = padded 128 (t .numbers) }
-tells Unknown t = record { outcome = Refused 23 (numberOf (t .layout)); layout = numberOf (t .layout); count = 0; fields = replicate 128 0 }
+contentsTo Unknown t = record { outcome = Refused 23 (numberOf (t .layout)); layout = numberOf (t .layout); count = 0; fields = replicate 128 0 }
 
-unfoldable pub toldOf : Layout → Table → Told
-toldOf reader t = tells (known reader (numberOf (t .layout))) t
+unfoldable pub contentsOf : Layout → Table → Contents
+contentsOf reader t = contentsTo (known reader (numberOf (t .layout))) t
 
 -- A season file: its bytes, its used length, and the tables that were taken, the last first.
-pub record Season : Type 0 where
+pub record SeasonFile : Type 0 where
   pub bytes : List ℕ
   pub used : ℕ
-  pub taken : List Table
+  pub tablesTaken : List Table
 
 -- a new file in any lent list
-unfoldable pub opened : List ℕ → Season
-opened lent = record { bytes = lent; used = 0; taken = [] }
+unfoldable pub opened : List ℕ → SeasonFile
+opened lent = record { bytes = lent; used = 0; tablesTaken = [] }
 
 -- an append: the caller goes on with the used length that it answers
-unfoldable pub growsBy : Appended → Season → Table → Season
-growsBy (appends.Refused number place) s t = record { bytes = appendFile (t .layout) (s .bytes) (s .used) (t .numbers); used = s .used; taken = s .taken }
-growsBy (appends.Used end) s t = record { bytes = appendFile (t .layout) (s .bytes) (s .used) (t .numbers); used = end; taken = t ∷ s .taken }
+unfoldable pub growsBy : Appended → SeasonFile → Table → SeasonFile
+growsBy (appends.Refused number place) s t = record { bytes = appendFile (t .layout) (s .bytes) (s .used) (t .numbers); used = s .used; tablesTaken = s .tablesTaken }
+growsBy (appends.Used end) s t = record { bytes = appendFile (t .layout) (s .bytes) (s .used) (t .numbers); used = end; tablesTaken = t ∷ s .tablesTaken }
 
-unfoldable pub grows : Season → Table → Season
+unfoldable pub grows : SeasonFile → Table → SeasonFile
 grows s t = growsBy (appendAnswer (t .layout) (s .bytes) (s .used) (t .numbers)) s t
 
 -- appends one behind another, refused ones among them
-unfoldable pub season : Season → List Table → Season
-season s [] = s
-season s (t ∷ ts) = season (grows s t) ts
+unfoldable pub appendAll : SeasonFile → List Table → SeasonFile
+appendAll s [] = s
+appendAll s (t ∷ ts) = appendAll (grows s t) ts

@@ -1,12 +1,12 @@
 // Appending a table and its trailer behind the used bytes: all checks first, then the bytes.
 ghost use mathlib.Core.Path.{_≡_};
-ghost use mathlib.Core.List.{[], _++_, _∷_};
+ghost use mathlib.Core.List.{_++_};
 ghost use Prim.Native.Nat.{_+_, _*_, _≤_};
 ghost use lib.Dec.{ltb};
 ghost use lib.ListN.{length};
 ghost use lib.Seq.{sets};
 ghost use Rattle.chain.specs.Answers.{newTrailer, appendAnswer, appendFile};
-ghost use Rattle.chain.specs.Bytes.{bytesOf};
+ghost use Rattle.tables.specs.Bytes.{bytesOf};
 ghost use Rattle.chain.specs.Refusals.{check24, checkLast, checkAppend, endAfter};
 ghost use Rattle.chain.specs.Trailer.{trailerNumbers};
 use crate::answers::Appended;
@@ -18,6 +18,7 @@ use crate::trailer::check_trailer;
 use crate::trailer::last_place;
 use tables::Outcome;
 use tables::before;
+use tables::put_at;
 use tables::refuse;
 
 // The last trailer checked by 21 and 22, both layouts known; a file with no used bytes has none.
@@ -62,26 +63,15 @@ fn check_append(layout: Layout, file: &[u8], used: usize, table: &[u32]) -> Outc
     before(check_last(file, used), before(numbers, room))
 }
 
-// A number written as four bytes, its lowest first.
-fn put4(file: &mut [u8], at: usize, number: u32)
-    requires { ⌜ at + 4 ≤ length (now file) ⌝ }
-    ensures { λ _. ⌜ now (file .exit) ≡ sets (now (file .entry)) at (bytesOf (number ∷ [])) ⌝ }
-{
-    file[at] = (number % 256) as u8;
-    file[at + 1] = (number / 256 % 256) as u8;
-    file[at + 2] = (number / 65536 % 256) as u8;
-    file[at + 3] = (number / 16777216) as u8;
-}
-
 // Numbers written one behind another; the place behind them.
 fn put_numbers(file: &mut [u8], at: usize, numbers: &[u32]) -> usize
     requires { ⌜ at + length (now numbers) * 4 ≤ length (now file) ⌝ }
-    ensures writes { λ r. ⌜ now (file .exit) ≡ sets (now (file .entry)) at (bytesOf (now (numbers .entry))) ⌝ }
+    ensures writes { λ r. ⌜ now (file .exit) ≡ sets (now (file .entry)) at (bytesOf 4 (now (numbers .entry))) ⌝ }
     ensures ends { λ r. ⌜ r ≡ at + length (now (numbers .entry)) * 4 ⌝ }
 {
     let mut i: usize = 0;
     while i < numbers.len() {
-        put4(file, at + i * 4, numbers[i]);
+        put_at(file, at + i * 4, numbers[i]);
         i += 1;
     }
     at + i * 4
@@ -101,7 +91,7 @@ fn trailer_numbers(layout: Layout, used: usize, numbers: usize) -> [u32; 4]
 fn put_table(layout: Layout, file: &mut [u8], used: usize, table: &[u32]) -> usize
     requires { ⌜ endAfter used (length (now table)) ≤ length (now file) ⌝ }
     requires { ⌜ endAfter used (length (now table)) ≤ 4294967295 ⌝ }
-    ensures writes { λ r. ⌜ now (file .exit) ≡ sets (now (file .entry)) used (bytesOf (now (table .entry) ++ trailerNumbers (newTrailer layout used (length (now (table .entry)))))) ⌝ }
+    ensures writes { λ r. ⌜ now (file .exit) ≡ sets (now (file .entry)) used (bytesOf 4 (now (table .entry) ++ trailerNumbers (newTrailer layout used (length (now (table .entry)))))) ⌝ }
     ensures ends { λ r. ⌜ r ≡ endAfter used (length (now (table .entry))) ⌝ }
 {
     let trailer = trailer_numbers(layout, used, table.len());

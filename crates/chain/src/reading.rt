@@ -1,7 +1,7 @@
 // Reading a table at its trailer's place, and at the last 16 bytes.
 ghost use mathlib.Core.Path.{_≡_};
 ghost use Rattle.chain.specs.declared.layout.Known.{Known};
-ghost use Rattle.chain.specs.Answers.{nothing, passed, readTable, readTrailer, readAt, readAnswer, lastAnswer};
+ghost use Rattle.chain.specs.Answers.{nothing, passedBy, readTable, readTrailer, readAt, readAnswer, lastAnswer};
 use crate::answers::Read;
 use crate::layout::Known;
 use crate::layout::Layout;
@@ -31,8 +31,8 @@ fn nothing(number: u32, place: u32) -> Read
 }
 
 // No fields, but the trailer to go on to.
-fn passed(trailer: Trailer, number: u32, place: u32) -> Read
-    ensures { λ r. ⌜ r ≡ passed trailer number place ⌝ }
+fn passed_by(trailer: Trailer, number: u32, place: u32) -> Read
+    ensures { λ r. ⌜ r ≡ passedBy trailer number place ⌝ }
 {
     let fields = zeros();
     Read {
@@ -50,7 +50,7 @@ fn read_table(layout: Layout, file: &[u8], trailer: Trailer) -> Read
 {
     let count = trailer.count;
     if 16 < count {
-        return passed(trailer, 2, 0);
+        return passed_by(trailer, 2, 0);
     }
     let n = numbers_of(layout, count) as usize;
     let fields = decode(file, trailer.start, n);
@@ -63,7 +63,7 @@ fn read_table(layout: Layout, file: &[u8], trailer: Trailer) -> Read
             count,
             fields,
         },
-        Outcome::Refused(number, place) => passed(trailer, number, place),
+        Outcome::Refused(number, place) => passed_by(trailer, number, place),
     }
 }
 
@@ -74,7 +74,7 @@ fn read_trailer(reader: Layout, file: &[u8], trailer: Trailer) -> Read
     let layout = known_to(reader, trailer.layout);
     match layout {
         Known::Is(own) => read_table(own, file, trailer),
-        Known::Unknown => passed(trailer, 23, trailer.layout),
+        Known::Unknown => passed_by(trailer, 23, trailer.layout),
     }
 }
 

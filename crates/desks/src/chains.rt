@@ -10,9 +10,9 @@ use chain::Layout;
 use chain::NONE;
 use drawn::answers::DONE;
 use drawn::answers::NUMBERED;
+use drawn::answers::answer_if;
 use drawn::answers::of_outcome;
 use drawn::answers::refused;
-use drawn::answers::told;
 use drawn::damage::wrong_length;
 use drawn::damage::wrong_task;
 use drawn::draw::draw;
@@ -228,7 +228,7 @@ fn try_read(
         same = (fields[i] == list.get(i)) & same;
     }
     let said = (got.layout == due.layout) & (got.count == due.count);
-    let answer = told(of_outcome(outcome), same, said, got.before == due.before);
+    let answer = answer_if(of_outcome(outcome), same, said, got.before == due.before);
     note(t, call, (place % 4294967296) as u32, due.answer, answer);
     got.before
 }
@@ -254,7 +254,7 @@ fn try_walk(t: &mut Tally, h: Held, trial: u32, two: bool, written: bool) {
     }
     let ended = (place == NONE) & (!written | (left == 0));
     let want = if written { DONE } else { NUMBERED };
-    note(t, WALK, used, want, told(want, ended, true, true));
+    note(t, WALK, used, want, answer_if(want, ended, true, true));
 }
 
 // Whether each byte is what it was, but for the numbers that are written from a place on.
@@ -320,7 +320,7 @@ fn try_append(t: &mut Tally, h: Held, trial: u32, k: u32, used: usize, room: usi
     let none = list_of(&[0; 0]);
     let due = if key == FINE { longest } else { none };
     let same = is_written(&bytes, &next, used, due);
-    let got = told(lent.answer, same, true, true);
+    let got = answer_if(lent.answer, same, true, true);
     note(t, APPEND, k, refusal(key), got);
     let log = h.log;
     let longer = log.push(k).push((end % 4294967296) as u32);

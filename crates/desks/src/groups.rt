@@ -5,6 +5,7 @@ use crate::stretches::horizon_of;
 use crate::stretches::try_long;
 use crate::stretches::try_stretches;
 use crate::tally::report;
+use crate::texts::try_texts;
 use crate::windows::try_windows;
 use drawn::damage::damaged;
 use drawn::draw::draw;
@@ -36,7 +37,9 @@ const SEASONS: u32 = 3;
 
 const CHAINS: u32 = 4;
 
-const KINDS: u32 = 5;
+const TEXTS: u32 = 5;
+
+const KINDS: u32 = 6;
 
 fn title(kind: u32) {
     match kind {
@@ -44,6 +47,7 @@ fn title(kind: u32) {
         WINDOWS => text(b"windows"),
         SEASONS => text(b"seasons"),
         CHAINS => text(b"chains"),
+        TEXTS => text(b"texts"),
         _ => text(b"stretches"),
     }
 }
@@ -94,6 +98,7 @@ fn try_case(t: &mut Tally, kind: u32, case: Case, tasks: &[u32], jobs: &[u32]) {
         WINDOWS => try_windows(t, case, tasks, jobs),
         SEASONS => try_seasons(t, case.trial, tasks),
         CHAINS => try_chains(t, case.trial),
+        TEXTS => try_texts(t, case.trial),
         _ => try_stretches(t, case, tasks, jobs),
     }
     if before < count(t, DIFFERENCES) {

@@ -6,6 +6,7 @@ mod groups;
 mod seasons;
 mod stretches;
 mod tally;
+mod texts;
 mod windows;
 
 fn main() {

@@ -10,12 +10,12 @@ use drawn::answers::ENDED;
 use drawn::answers::MET;
 use drawn::answers::OPEN;
 use drawn::answers::OUTSIDE;
+use drawn::answers::answer_if;
 use drawn::answers::mode_of;
 use drawn::answers::of_outcome;
 use drawn::answers::of_verdict;
 use drawn::answers::refused;
 use drawn::answers::tie_of;
-use drawn::answers::told;
 use drawn::damage::damaged;
 use drawn::draw::draw;
 use drawn::inputs::Input;
@@ -163,7 +163,7 @@ fn check(t: &mut Tally, call: usize, key: u32, a: Report, b: Report, got: Report
         call,
         a.tasks,
         refusal(first),
-        told(of_outcome(outcome), true, true, same),
+        answer_if(of_outcome(outcome), true, true, same),
     );
     if (key == FINE) & due.over & (a.tasks == b.tasks) {
         add(t, call % 1024 + 1, 1);
@@ -283,13 +283,13 @@ fn try_mean(t: &mut Tally, row: Row) {
     let due = if row.finished == 0 { 0 } else { 1 };
     let both = right_extremes(row);
     let Mean::Of(quotient, remainder, n) = season::mean(row) else {
-        note(t, MEAN, 0, due, told(0, true, true, both));
+        note(t, MEAN, 0, due, answer_if(0, true, true, both));
         return;
     };
     let whole = wide(quotient) * wide(n);
     let right = (remainder <= row.sum) & (whole == wide(less(row.sum, remainder)));
     let below = (remainder < n) & (n == row.finished);
-    note(t, MEAN, n, due, told(1, right, below, both));
+    note(t, MEAN, n, due, answer_if(1, right, below, both));
 }
 
 // What a report is shown in.
@@ -368,7 +368,13 @@ fn try_show(t: &mut Tally, report: Report) {
     }
     let lines = least(report.tasks, 1) as u64;
     let right = (n == end) & (at == 2048);
-    note(t, SHOW, report.tasks, lines, told(lines, right, true, true));
+    note(
+        t,
+        SHOW,
+        report.tasks,
+        lines,
+        answer_if(lines, right, true, true),
+    );
 }
 
 // Two reports of a table's runs and two that were made up, mostly of as many tasks: each is joined to each, shown, and has a run added.

@@ -19,11 +19,11 @@ use crate::tally::REPLACE;
 use crate::tally::SAME_COLUMN;
 use drawn::answers::DONE;
 use drawn::answers::NUMBERED;
+use drawn::answers::answer_if;
 use drawn::answers::mode_of;
 use drawn::answers::of_outcome;
 use drawn::answers::refused;
 use drawn::answers::tie_of;
-use drawn::answers::told;
 use drawn::draw::draw;
 use drawn::judge::FINE;
 use drawn::judge::late;
@@ -127,7 +127,7 @@ fn try_build(
     let schedule = front_of_line(&line, case.room);
     let outcome = index::build(tasks, jobs, case.horizon, schedule, &mut rows[0..n]);
     let right = alike(&line, &rows, &line, &due);
-    let got = told(of_outcome(outcome), true, right, true);
+    let got = answer_if(of_outcome(outcome), true, right, true);
     note(t, BUILD, 0, refusal(key), got);
     Held {
         line,
@@ -185,7 +185,13 @@ fn try_range(
     };
     let other = done & (n != ticks_with(&line, tasks, jobs, c, a, b));
     let right = !(h.built & other);
-    note(t, BETWEEN, c, due, told(of_count(got), right, true, true));
+    note(
+        t,
+        BETWEEN,
+        c,
+        due,
+        answer_if(of_count(got), right, true, true),
+    );
     if other {
         add(t, NOT_FRESH, 1);
     }
@@ -242,7 +248,7 @@ fn try_replace(
     let right = alike(&line, &rows, &due_line, &due_rows);
     let afresh = index_of(&line, tasks, jobs, if h.built { h.size } else { 0 });
     let fresh = !(h.built & done) | alike(&line, &rows, &line, &afresh);
-    let got = told(of_outcome(outcome), right, fresh, true);
+    let got = answer_if(of_outcome(outcome), right, fresh, true);
     note(t, REPLACE, tick, refusal(key), got);
     if done & due.same {
         add(t, SAME_COLUMN, 1);

@@ -29,6 +29,18 @@ pub(crate) const LAST: usize = 768;
 
 pub(crate) const WALK: usize = 832;
 
+pub(crate) const WIDE: usize = 896;
+
+pub(crate) const DECIMAL: usize = 960;
+
+pub(crate) const PUT_BYTE: usize = 1024;
+
+pub(crate) const PUT_TEXT: usize = 1088;
+
+pub(crate) const PUT_NUMBER: usize = 1152;
+
+pub(crate) const PUT_NUMBERS: usize = 1216;
+
 // What is counted beside the answers.
 pub(crate) const NOT_FRESH: usize = 130;
 
@@ -43,6 +55,41 @@ pub(crate) const FEWER_JOBS: usize = 258;
 pub(crate) const LATER_WINDOW: usize = 259;
 
 pub(crate) const OPEN_JOBS: usize = 260;
+
+pub(crate) const MOST_DIGITS: usize = 2;
+
+pub(crate) const MORE_DIGITS: usize = 3;
+
+pub(crate) const LEADING_ZERO: usize = 4;
+
+pub(crate) const PAST_32_BITS: usize = 5;
+
+pub(crate) const IN_JUST_ROOM: usize = 3;
+
+// Numbers in text, and what is put into it.
+fn texts(t: &Tally) {
+    line(
+        t,
+        b"  number of up to 10 digits, none; of 10 digits, of more, with a zero before it, of 10 digits past 32 bits:",
+        WIDE,
+        6,
+    );
+    line(
+        t,
+        b"  number of up to 5 digits, none; of 5 digits, of more, with a zero before it:",
+        DECIMAL,
+        5,
+    );
+    line(
+        t,
+        b"  byte put whole, in part, without room, in just its room:",
+        PUT_BYTE,
+        4,
+    );
+    line(t, b"  text put, likewise:", PUT_TEXT, 4);
+    line(t, b"  number put, likewise:", PUT_NUMBER, 4);
+    line(t, b"  numbers put, likewise:", PUT_NUMBERS, 4);
+}
 
 // All that a group counted, or the sum of all.
 pub(crate) fn report(t: &Tally) {
@@ -80,4 +127,5 @@ pub(crate) fn report(t: &Tally) {
         WALK,
         2,
     );
+    texts(t);
 }

@@ -10,12 +10,12 @@ use drawn::answers::NUMBERED;
 use drawn::answers::OPEN;
 use drawn::answers::OUTSIDE;
 use drawn::answers::REFUSED;
+use drawn::answers::answer_if;
 use drawn::answers::mode_of;
 use drawn::answers::of_outcome;
 use drawn::answers::of_verdict;
 use drawn::answers::refused;
 use drawn::answers::tie_of;
-use drawn::answers::told;
 use drawn::draw::draw;
 use drawn::judge::FINE;
 use drawn::judge::late;
@@ -220,7 +220,7 @@ fn try_question(
     let mode = mode_of(case.se);
     let got = of_windows(window::judge(rec, mode, tasks, jobs, q.task, q.m, q.k));
     let same = (got.misses == due.misses) & (got.opens == due.opens);
-    let answer = told(got.answer, true, true, same);
+    let answer = answer_if(got.answer, true, true, same);
     note(t, JUDGE, q.task, due.answer, answer);
     count_beside(t, own, due, q.k);
 }

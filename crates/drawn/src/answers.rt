@@ -33,7 +33,7 @@ pub const REFUSED: u64 = 1000000;
 // An answer with something wrong in what comes with it: 1 the entries, 2 the words, 3 the record.
 const WRONG: u64 = 1000000000;
 
-pub fn told(answer: u64, entries: bool, words: bool, record: bool) -> u64 {
+pub fn answer_if(answer: u64, entries: bool, words: bool, record: bool) -> u64 {
     if entries & words & record {
         return answer;
     }

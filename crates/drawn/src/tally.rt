@@ -11,7 +11,7 @@ use crate::list::entry_at;
 
 // Each call has 64 counts: its answers, in the order in which a report names them, from 32 on the refusals by their numbers, and at 63 how
 // often it was made.
-pub type Tally = [u32; 1728];
+pub type Tally = [u32; 1856];
 
 pub const INPUTS: usize = 0;
 
@@ -22,15 +22,15 @@ pub const DIFFERENCES: usize = 2;
 const MADE: usize = 63;
 
 pub fn nothing() -> Tally {
-    [0; 1728]
+    [0; 1856]
 }
 
 pub fn count(t: &Tally, what: usize) -> u32 {
-    if what < 1728 { t[what] } else { 0 }
+    if what < 1856 { t[what] } else { 0 }
 }
 
 pub fn add(t: &mut Tally, what: usize, by: u32) {
-    if what < 1728 {
+    if what < 1856 {
         t[what] = std::num::wrapping_add_u32(t[what], by);
     }
 }
@@ -60,8 +60,8 @@ fn class(answer: u64) -> usize {
 // A call was compared: what it names, a job, a tick, or how many parts or entries, what was expected, and what came.
 pub fn note(t: &mut Tally, call: usize, number: u32, want: u64, got: u64) {
     add(t, CALLS, 1);
-    add(t, call % 1728 + MADE, 1);
-    add(t, call % 1728 + class(want) % 64, 1);
+    add(t, call % 1856 + MADE, 1);
+    add(t, call % 1856 + class(want) % 64, 1);
     if want != got {
         add(t, DIFFERENCES, 1);
         difference(call / 64, number, want, got);
@@ -96,7 +96,7 @@ fn refused(number: usize, times: u32) {
 
 // What the words name, so many counts, and the refusals that came; nothing of a call that was not made.
 pub fn line(t: &Tally, words: &[u8], call: usize, n: usize) {
-    let first = call % 1728;
+    let first = call % 1856;
     if count(t, first + MADE) == 0 {
         return;
     }

@@ -4,13 +4,14 @@ use mathlib.Core.List.{List, [], _++_, _∷_}
 use mathlib.Core.Path.{refl, _≡_}
 use lib.ListN.{replicate, set}
 use Rattle.bits.specs.Below.{greatest, listFrom, some}
-use Rattle.tables.specs.Refusals.{ascending, before, check10, check2, check3, check4, check5, check6, check7, check8, check9, checkJobs, checkLists, checkTasks, outside, preceding, refuse, unless}
+use Rattle.tables.specs.Refusals.{ascending, before, check10, check2, check3, check4, check5, check6, check7, check8}
+use Rattle.tables.specs.Refusals.{check9, checkJobs, checkLists, checkTasks, outside, preceding, refuse, unless, checkSchedule}
 use Rattle.tables.specs.Said.{done, outcomeSaid, refused}
 use Rattle.tables.specs.Tables.{arrival, criticality, deadline, execution, idle, jobCount, nominal, offset, overload, period, priority, taskCount, taskOf}
 use Rattle.index.specs.Answers.{betweenAnswer, buildAnswer, buildIndex, checkAsked, checkBetween, checkChange, checkPlaced, moved, replaceAnswer, replaceIndex, replaceSchedule}
-use Rattle.index.specs.Counts.{Given, allKnown, column, given, gives, known, part, ticks}
-use Rattle.index.specs.Refusals.{builtFrom, checkBuilt, checkEnds, checkEntries, checkGiven, checkLength, checkRange, checkTask, checkTick, countAt, leaves, since, strays}
-use Rattle.index.specs.Rows.{indexOf, numberAt, rowNumber, table}
+use Rattle.index.specs.Counts.{Plan, allJobsOrIdle, column, plan, gives, jobOrIdle, entriesBetween, ticks}
+use Rattle.index.specs.Refusals.{builtFrom, checkBuilt, checkEnds, checkEntries, checkLength, checkRange, checkTask, checkTick, countAt, leaves, since, strays}
+use Rattle.index.specs.Rows.{indexOf, indexNumber, rowNumber, rowByRow}
 use Rattle.index.specs.Said.{counted, countSaid}
 
 -- ## From midnight to six, a tick being a minute
@@ -34,8 +35,8 @@ minutes (suc n) =
     ++ replicate 3 (7 * n + 2) ++ replicate 4 idle ++ replicate 3 (7 * n + 5) ++ replicate 4 (7 * n + 4)
     ++ replicate 3 idle ++ replicate 3 (7 * n + 6) ++ replicate 7 idle
 
-unfoldable pub night : Given
-night = given tasks (jobs 9) 360
+unfoldable pub night : Plan
+night = plan tasks (jobs 9) 360
 
 -- before minutes 0, 64, 128, 192, 256 and 320: down-force, depth, log, idle
 abbrev rows : List ℕ
@@ -44,7 +45,10 @@ rows =
     ++ (52 ∷ 78 ∷ 42 ∷ 84 ∷ []) ++ (64 ∷ 96 ∷ 48 ∷ 112 ∷ [])
 
 pub night-built : buildIndex night (minutes 9) (replicate 24 7) ≡ rows
-unfolding some greatest listFrom taskCount period deadline nominal overload criticality priority offset jobCount taskOf arrival execution refuse before ascending outside check2 check3 check4 checkTasks check5 preceding check6 check7 check8 checkJobs checkLists check9 check10 unless known allKnown column gives ticks table rowNumber indexOf checkGiven checkLength builtFrom checkBuilt buildAnswer buildIndex jobs minutes night
+unfolding some greatest listFrom taskCount period deadline nominal overload criticality priority offset jobCount taskOf arrival execution refuse
+    before ascending outside check2 check3 check4 checkTasks check5 preceding check6 check7 check8 checkJobs checkLists check9 check10 unless
+    jobOrIdle allJobsOrIdle column gives ticks rowByRow rowNumber indexOf checkSchedule checkLength builtFrom checkBuilt buildAnswer buildIndex jobs
+    minutes night
 night-built = refl
 
 -- From 2 to 5 o'clock, minute 120 up to minute 300, depth had 54 minutes, down-force 36, the log 30, and 60 were idle.
@@ -54,7 +58,10 @@ asked schedule index =
     ∷ countSaid (betweenAnswer night schedule index 2 120 300) ∷ countSaid (betweenAnswer night schedule index 3 120 300) ∷ []
 
 pub from-two-to-five : asked (minutes 9) rows ≡ counted 36 ∷ counted 54 ∷ counted 30 ∷ counted 60 ∷ []
-unfolding greatest taskCount period deadline nominal overload criticality priority offset jobCount taskOf arrival execution refuse before ascending outside check2 check3 check4 checkTasks check5 preceding check6 check7 check8 checkJobs checkLists check9 check10 unless known allKnown column gives ticks part numberAt checkGiven checkLength checkRange checkTask since countAt checkEnds checkAsked checkBetween betweenAnswer countSaid jobs minutes night asked
+unfolding greatest taskCount period deadline nominal overload criticality priority offset jobCount taskOf arrival execution refuse before ascending
+    outside check2 check3 check4 checkTasks check5 preceding check6 check7 check8 checkJobs checkLists check9 check10 unless jobOrIdle allJobsOrIdle
+    column gives ticks entriesBetween indexNumber checkSchedule checkLength checkRange checkTask since countAt checkEnds checkAsked checkBetween
+    betweenAnswer countSaid jobs minutes night asked
 from-two-to-five = refl
 
 -- Minute 215 was the depth job's, 38, and not the log's, 37: in the rows of minutes 256 and 320 one more is depth's and one less the log's.
@@ -64,17 +71,23 @@ corrected =
     ++ (52 ∷ 79 ∷ 41 ∷ 84 ∷ []) ++ (64 ∷ 97 ∷ 47 ∷ 112 ∷ [])
 
 pub minute-replaced : (replaceSchedule night (minutes 9) rows 215 38 ≡ set (minutes 9) 215 38) × (replaceIndex night (minutes 9) rows 215 38 ≡ corrected)
-unfolding some greatest listFrom taskCount period deadline nominal overload criticality priority offset jobCount taskOf arrival execution refuse before ascending outside check2 check3 check4 checkTasks check5 preceding check6 check7 check8 checkJobs checkLists check9 check10 unless known column table numberAt checkGiven checkLength checkTick checkEntries leaves strays moved checkPlaced checkChange replaceAnswer replaceSchedule replaceIndex jobs minutes night
+unfolding some greatest listFrom taskCount period deadline nominal overload criticality priority offset jobCount taskOf arrival execution refuse
+    before ascending outside check2 check3 check4 checkTasks check5 preceding check6 check7 check8 checkJobs checkLists check9 check10 unless
+    jobOrIdle column rowByRow indexNumber checkSchedule checkLength checkTick checkEntries leaves strays moved checkPlaced checkChange replaceAnswer
+    replaceSchedule replaceIndex jobs minutes night
 minute-replaced = (refl, refl)
 
 pub asked-again : asked (set (minutes 9) 215 38) corrected ≡ counted 36 ∷ counted 55 ∷ counted 29 ∷ counted 60 ∷ []
-unfolding greatest taskCount period deadline nominal overload criticality priority offset jobCount taskOf arrival execution refuse before ascending outside check2 check3 check4 checkTasks check5 preceding check6 check7 check8 checkJobs checkLists check9 check10 unless known allKnown column gives ticks part numberAt checkGiven checkLength checkRange checkTask since countAt checkEnds checkAsked checkBetween betweenAnswer countSaid jobs minutes night asked
+unfolding greatest taskCount period deadline nominal overload criticality priority offset jobCount taskOf arrival execution refuse before ascending
+    outside check2 check3 check4 checkTasks check5 preceding check6 check7 check8 checkJobs checkLists check9 check10 unless jobOrIdle allJobsOrIdle
+    column gives ticks entriesBetween indexNumber checkSchedule checkLength checkRange checkTask since countAt checkEnds checkAsked checkBetween
+    betweenAnswer countSaid jobs minutes night asked
 asked-again = refl
 
 -- ## At the edges: the depth task alone, with one job of 3 ticks at 0
 
-abbrev alone : ℕ → Given
-alone horizon = given (10 ∷ 10 ∷ 3 ∷ 4 ∷ 2 ∷ 3 ∷ 6 ∷ []) (0 ∷ 0 ∷ 3 ∷ []) horizon
+abbrev alone : ℕ → Plan
+alone horizon = plan (10 ∷ 10 ∷ 3 ∷ 4 ∷ 2 ∷ 3 ∷ 6 ∷ []) (0 ∷ 0 ∷ 3 ∷ []) horizon
 
 -- the first three ticks are the job's
 abbrev first : ℕ → List ℕ
@@ -115,7 +128,10 @@ answered =
     ∷ refused 15 0 ∷ refused 15 0 ∷ refused 16 0 ∷ refused 16 0 ∷ counted 1 ∷ refused 16 0 ∷ refused 9 0 ∷ refused 10 0 ∷ []
 
 pub edges-asked : questions ≡ answered
-unfolding greatest taskCount period deadline nominal overload criticality priority offset jobCount taskOf arrival execution refuse before ascending outside check2 check3 check4 checkTasks check5 preceding check6 check7 check8 checkJobs checkLists check9 check10 unless known allKnown column gives ticks part numberAt checkGiven checkLength checkRange checkTask since countAt checkEnds checkAsked checkBetween betweenAnswer countSaid ask
+unfolding greatest taskCount period deadline nominal overload criticality priority offset jobCount taskOf arrival execution refuse before ascending
+    outside check2 check3 check4 checkTasks check5 preceding check6 check7 check8 checkJobs checkLists check9 check10 unless jobOrIdle allJobsOrIdle
+    column gives ticks entriesBetween indexNumber checkSchedule checkLength checkRange checkTask since countAt checkEnds checkAsked checkBetween
+    betweenAnswer countSaid ask
 edges-asked = refl
 
 -- an answer, and the index afterwards
@@ -125,9 +141,12 @@ builds horizon schedule index = outcomeSaid (buildAnswer (alone horizon) schedul
 unfoldable pub replaces : List ℕ → ℕ → ℕ → List (List ℕ)
 replaces index tick entry = outcomeSaid (replaceAnswer (alone 64) (first 61) index tick entry) ∷ replaceIndex (alone 64) (first 61) index tick entry ∷ []
 
-pub edges-built : builds 0 [] (7 ∷ 7 ∷ []) ++ builds 64 (first 61) (replicate 4 7) ++ builds 3 (0 ∷ 5 ∷ 0 ∷ []) (7 ∷ 7 ∷ []) ++ builds 64 (first 60 ++ (5 ∷ [])) (replicate 4 7) ++ builds 64 (first 61) (replicate 3 7)
+pub edges-built : builds 0 [] (7 ∷ 7 ∷ []) ++ builds 64 (first 61) (replicate 4 7) ++ builds 3 (0 ∷ 5 ∷ 0 ∷ [])
+    (7 ∷ 7 ∷ []) ++ builds 64 (first 60 ++ (5 ∷ [])) (replicate 4 7) ++ builds 64 (first 61) (replicate 3 7)
     ≡ (done ∷ (0 ∷ 0 ∷ []) ∷ []) ++ (done ∷ (0 ∷ 0 ∷ 3 ∷ 61 ∷ []) ∷ []) ++ (done ∷ (0 ∷ 0 ∷ []) ∷ []) ++ (refused 16 0 ∷ replicate 4 7 ∷ []) ++ (refused 16 0 ∷ replicate 3 7 ∷ [])
-unfolding greatest listFrom taskCount period deadline nominal overload criticality priority offset jobCount taskOf arrival execution refuse before ascending outside check2 check3 check4 checkTasks check5 preceding check6 check7 check8 checkJobs checkLists check9 check10 unless outcomeSaid known allKnown column gives ticks table rowNumber indexOf checkGiven checkLength builtFrom checkBuilt buildAnswer buildIndex builds
+unfolding greatest listFrom taskCount period deadline nominal overload criticality priority offset jobCount taskOf arrival execution refuse before
+    ascending outside check2 check3 check4 checkTasks check5 preceding check6 check7 check8 checkJobs checkLists check9 check10 unless outcomeSaid
+    jobOrIdle allJobsOrIdle column gives ticks rowByRow rowNumber indexOf checkSchedule checkLength builtFrom checkBuilt buildAnswer buildIndex builds
 edges-built = refl
 
 -- At tick 0 of 64 the job gives way to idle; then an old count of 0, one that would stay above the horizon, and a new one at it; the same
@@ -136,5 +155,8 @@ pub edges-replaced : replaces (0 ∷ 0 ∷ 3 ∷ 61 ∷ []) 0 idle ++ replaces (
     ++ replaces (9 ∷ 9 ∷ 0 ∷ 99 ∷ []) 0 0 ++ replaces (0 ∷ 0 ∷ 3 ∷ 61 ∷ []) 64 0 ++ replaces (0 ∷ 0 ∷ 3 ∷ 61 ∷ []) 0 1
     ≡ (done ∷ (0 ∷ 0 ∷ 2 ∷ 62 ∷ []) ∷ []) ++ (refused 16 0 ∷ (0 ∷ 0 ∷ 0 ∷ 61 ∷ []) ∷ []) ++ (refused 16 0 ∷ (0 ∷ 0 ∷ 66 ∷ 0 ∷ []) ∷ []) ++ (refused 16 0 ∷ (0 ∷ 0 ∷ 3 ∷ 64 ∷ []) ∷ [])
     ++ (done ∷ (9 ∷ 9 ∷ 0 ∷ 99 ∷ []) ∷ []) ++ (refused 15 0 ∷ (0 ∷ 0 ∷ 3 ∷ 61 ∷ []) ∷ []) ++ (refused 16 0 ∷ (0 ∷ 0 ∷ 3 ∷ 61 ∷ []) ∷ [])
-unfolding some greatest listFrom taskCount period deadline nominal overload criticality priority offset jobCount taskOf arrival execution refuse before ascending outside check2 check3 check4 checkTasks check5 preceding check6 check7 check8 checkJobs checkLists check9 check10 unless outcomeSaid known column table numberAt checkGiven checkLength checkTick checkEntries leaves strays moved checkPlaced checkChange replaceAnswer replaceSchedule replaceIndex replaces
+unfolding some greatest listFrom taskCount period deadline nominal overload criticality priority offset jobCount taskOf arrival execution refuse
+    before ascending outside check2 check3 check4 checkTasks check5 preceding check6 check7 check8 checkJobs checkLists check9 check10 unless
+    outcomeSaid jobOrIdle column rowByRow indexNumber checkSchedule checkLength checkTick checkEntries leaves strays moved checkPlaced checkChange
+    replaceAnswer replaceSchedule replaceIndex replaces
 edges-replaced = refl

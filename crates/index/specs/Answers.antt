@@ -5,17 +5,17 @@ use mathlib.Core.Bool.{cond, not, _&&_}
 use mathlib.Core.List.{List, [], _∷_}
 use lib.Dec.{eqb, ltb}
 use lib.ListN.{getD, length, set}
-use Rattle.tables.specs.declared.outcome.Outcome.{Outcome}
+use Rattle.tables.specs.declared.answers.Outcome.{Outcome}
 use Rattle.tables.specs.Refusals.{before, refuse, unless}
-use Rattle.index.specs.declared.Count.{Count}
-use Rattle.index.specs.declared.Count.the-variants.{Refused, Ticks}
-use Rattle.index.specs.Counts.{Given, column}
+use Rattle.index.specs.declared.answers.Count.{Count}
+use Rattle.index.specs.declared.answers.Count.the-variants.{Refused, Ticks}
+use Rattle.index.specs.Counts.{Plan, column}
 use Rattle.index.specs.Refusals.{checkBuilt, checkEnds, checkEntries, checkGiven, checkLength, checkRange, checkTask, checkTick, countAt, strays}
-use Rattle.index.specs.Rows.{indexOf, numberAt, rowCount, table, width}
+use Rattle.index.specs.Rows.{indexOf, indexNumber, rowCount, rowByRow, rowWidth}
 
 -- ## build
 
-module _ (g : Given) (schedule index : List ℕ) where
+module _ (g : Plan) (schedule index : List ℕ) where
   unfoldable pub buildAnswer : Outcome
   buildAnswer =
       before (checkGiven g (length schedule))
@@ -28,12 +28,12 @@ module _ (g : Given) (schedule index : List ℕ) where
 -- ## between
 
 -- what is checked before anything is read of the schedule and the index
-unfoldable pub checkAsked : Given → ℕ → ℕ → ℕ → ℕ → ℕ → Outcome
+unfoldable pub checkAsked : Plan → ℕ → ℕ → ℕ → ℕ → ℕ → Outcome
 checkAsked g entries numbers task a b =
     before (checkGiven g entries)
     (before (checkRange (g .horizon) a b) (before (checkLength (g .lists .tasks) (g .horizon) numbers) (checkTask (g .lists .tasks) task)))
 
-module _ (g : Given) (schedule index : List ℕ) (task a b : ℕ) where
+module _ (g : Plan) (schedule index : List ℕ) (task a b : ℕ) where
   unfoldable pub checkBetween : Outcome
   checkBetween = before (checkAsked g (length schedule) (length index) task a b) (checkEnds g schedule index task a b)
 
@@ -48,21 +48,21 @@ module _ (g : Given) (schedule index : List ℕ) (task a b : ℕ) where
 unfoldable pub moved : List ℕ → List ℕ → ℕ → ℕ → ℕ → ℕ → ℕ → ℕ
 moved tasks index tick old new r c =
     cond (not (eqb old new) && ltb tick (r * 64))
-    (cond (eqb c old) (numberAt tasks index r c - 1) (cond (eqb c new) (numberAt tasks index r c + 1) (numberAt tasks index r c)))
-    (numberAt tasks index r c)
+    (cond (eqb c old) (indexNumber tasks index r c - 1) (cond (eqb c new) (indexNumber tasks index r c + 1) (indexNumber tasks index r c)))
+    (indexNumber tasks index r c)
 
 -- what is checked before anything is read of the schedule and the index
-unfoldable pub checkPlaced : Given → ℕ → ℕ → ℕ → Outcome
+unfoldable pub checkPlaced : Plan → ℕ → ℕ → ℕ → Outcome
 checkPlaced g entries numbers tick =
     before (checkGiven g entries) (before (checkTick (g .horizon) tick) (checkLength (g .lists .tasks) (g .horizon) numbers))
 
 -- the entries, and then every count before any is written
-unfoldable pub checkChange : Given → List ℕ → ℕ → ℕ → ℕ → Outcome
+unfoldable pub checkChange : Plan → List ℕ → ℕ → ℕ → ℕ → Outcome
 checkChange g index tick stands entry =
     before (checkEntries (g .lists .jobs) stands entry)
     (refuse (strays (g .lists .tasks) (g .horizon) index tick (column (g .lists) stands) (column (g .lists) entry)) 16 0)
 
-module _ (g : Given) (schedule index : List ℕ) (tick entry : ℕ) where
+module _ (g : Plan) (schedule index : List ℕ) (tick entry : ℕ) where
   -- the entry that stands there
   abbrev pub stands : ℕ
   stands = getD schedule tick 0
@@ -76,7 +76,7 @@ module _ (g : Given) (schedule index : List ℕ) (tick entry : ℕ) where
   unfoldable pub replaceIndex : List ℕ
   replaceIndex =
       unless replaceAnswer (λ number place. index)
-      (table (width (g .lists .tasks)) (rowCount (g .horizon)) (moved (g .lists .tasks) index tick (column (g .lists) stands) (column (g .lists) entry)))
+      (rowByRow (rowWidth (g .lists .tasks)) (rowCount (g .horizon)) (moved (g .lists .tasks) index tick (column (g .lists) stands) (column (g .lists) entry)))
 
 -- ## any replacements
 
@@ -89,7 +89,7 @@ pub record Beside : Type 0 where
   pub schedule : List ℕ
   pub index : List ℕ
 
-module _ (g : Given) where
+module _ (g : Plan) where
   -- one replacement, done or refused
   abbrev pub replaceOne : Beside → Replacement → Beside
   replaceOne s r =

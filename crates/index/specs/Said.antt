@@ -2,8 +2,8 @@
 use Prim.Native.Nat.{ℕ}
 use mathlib.Core.List.{List, [], _∷_}
 use Rattle.tables.specs.Said.{refused}
-use Rattle.index.specs.declared.Count.{Count}
-use Rattle.index.specs.declared.Count.the-variants.{Refused, Ticks}
+use Rattle.index.specs.declared.answers.Count.{Count}
+use Rattle.index.specs.declared.answers.Count.the-variants.{Refused, Ticks}
 
 abbrev pub counted : ℕ → List ℕ
 counted n = n ∷ []

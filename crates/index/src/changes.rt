@@ -6,11 +6,11 @@ ghost use Prim.Native.Nat.{_≤_};
 ghost use Rattle.tables.specs.Tables.{lists, taskCount};
 ghost use Rattle.index.specs.Answers.{checkChange, moved, replaceAnswer};
 ghost use Rattle.index.specs.Code.{Checked, Sized};
-ghost use Rattle.index.specs.Counts.{given};
+ghost use Rattle.index.specs.Counts.{plan};
 ghost use Rattle.index.specs.Refusals.{leaves, strays};
-ghost use Rattle.index.specs.Rows.{rowCount, table, width};
+ghost use Rattle.index.specs.Rows.{rowCount, rowByRow, rowWidth};
 use crate::counts::column;
-use crate::counts::known;
+use crate::counts::job_or_idle;
 use crate::refusals::check_placed;
 use crate::rows::first_past;
 use crate::rows::row_at;
@@ -59,7 +59,7 @@ pub(crate) fn move_rows(
     requires { ⌜ Sized (now tasks) horizon (now index) ⌝ }
     requires { ⌜ (old ≤ taskCount (now tasks)) × (new ≤ taskCount (now tasks)) ⌝ }
     requires { ⌜ strays (now tasks) horizon (now index) tick old new ≡ Bool.false ⌝ }
-    ensures { λ _. ⌜ now (index .exit) ≡ table (width (now (tasks .entry))) (rowCount horizon) (moved (now (tasks .entry)) (now (index .entry)) tick old new) ⌝ }
+    ensures { λ _. ⌜ now (index .exit) ≡ rowByRow (rowWidth (now (tasks .entry))) (rowCount horizon) (moved (now (tasks .entry)) (now (index .entry)) tick old new) ⌝ }
 {
     if old == new {
         return;
@@ -86,9 +86,9 @@ fn check_change(
 ) -> Outcome
     requires { ⌜ Checked (lists (now tasks) (now jobs)) ⌝ }
     requires { ⌜ Sized (now tasks) horizon (now index) ⌝ }
-    ensures { λ r. ⌜ r ≡ checkChange (given (now (tasks .entry)) (now (jobs .entry)) horizon) (now (index .entry)) tick stands entry ⌝ }
+    ensures { λ r. ⌜ r ≡ checkChange (plan (now (tasks .entry)) (now (jobs .entry)) horizon) (now (index .entry)) tick stands entry ⌝ }
 {
-    let strange = !known(jobs, stands) | !known(jobs, entry);
+    let strange = !job_or_idle(jobs, stands) | !job_or_idle(jobs, entry);
     if strange {
         return Outcome::Refused(16, 0);
     }
@@ -107,7 +107,7 @@ pub(crate) fn check_replace(
     tick: u32,
     entry: u16,
 ) -> Outcome
-    ensures { λ r. ⌜ r ≡ replaceAnswer (given (now (tasks .entry)) (now (jobs .entry)) horizon) (now (schedule .entry)) (now (index .entry)) tick entry ⌝ }
+    ensures { λ r. ⌜ r ≡ replaceAnswer (plan (now (tasks .entry)) (now (jobs .entry)) horizon) (now (schedule .entry)) (now (index .entry)) tick entry ⌝ }
 {
     let placed = check_placed(tasks, jobs, horizon, schedule.len(), index.len(), tick);
     match placed {

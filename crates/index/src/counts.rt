@@ -1,11 +1,12 @@
 // What an entry is given to, and how many entries are given to it.
-ghost use mathlib.Core.Bool.{Bool, cond};
+ghost use mathlib.Core.Bool.{Bool};
 ghost use mathlib.Core.Path.{_≡_};
 ghost use Prim.Native.Nat.{_+_, _*_, _≤_, _<_};
 ghost use lib.ListN.{length, take};
 ghost use Rattle.tables.specs.Tables.{lists};
 ghost use Rattle.index.specs.Code.{Checked, countsOf};
-ghost use Rattle.index.specs.Counts.{allKnown, column, known, ticks};
+ghost use Rattle.index.specs.Counts.{allJobsOrIdle, column, jobOrIdle, ticks};
+use bits::one_if;
 use tables::IDLE;
 use tables::job_at;
 use tables::job_count;
@@ -17,8 +18,8 @@ pub(crate) struct Tally {
 }
 
 // Whether the entry is a job of the list or idle.
-pub(crate) fn known(jobs: &[u32], entry: u16) -> bool
-    ensures { λ r. ⌜ r ≡ known (now (jobs .entry)) entry ⌝ }
+pub(crate) fn job_or_idle(jobs: &[u32], entry: u16) -> bool
+    ensures { λ r. ⌜ r ≡ jobOrIdle (now (jobs .entry)) entry ⌝ }
 {
     ((entry as usize) < job_count(jobs)) | (entry == IDLE)
 }
@@ -35,22 +36,14 @@ pub(crate) fn column(tasks: &[u32], jobs: &[u32], entry: u16) -> usize
     }
 }
 
-// 1 where the test passes.
-fn one_if(test: bool) -> u64
-    ensures is { λ r. ⌜ r ≡ cond test 1 0 ⌝ }
-    ensures small { λ r. ⌜ r ≤ 1 ⌝ }
-{
-    if test { 1 } else { 0 }
-}
-
 // Whether every entry is a job or idle.
-pub(crate) fn all_known(jobs: &[u32], entries: &[u16]) -> bool
-    ensures { λ r. ⌜ r ≡ allKnown (now (jobs .entry)) (now (entries .entry)) ⌝ }
+pub(crate) fn all_jobs_or_idle(jobs: &[u32], entries: &[u16]) -> bool
+    ensures { λ r. ⌜ r ≡ allJobsOrIdle (now (jobs .entry)) (now (entries .entry)) ⌝ }
 {
     let mut all = true;
     let mut i: usize = 0;
     while i < entries.len() {
-        all = all & known(jobs, entries[i]);
+        all = all & job_or_idle(jobs, entries[i]);
         i += 1;
     }
     all
@@ -58,15 +51,15 @@ pub(crate) fn all_known(jobs: &[u32], entries: &[u16]) -> bool
 
 // How many of the entries are given to c, each looked at once.
 pub(crate) fn ticks_of(tasks: &[u32], jobs: &[u32], c: usize, entries: &[u16]) -> Tally
-    ensures { λ r. ⌜ r ≡ record { ticks = ticks (lists (now (tasks .entry)) (now (jobs .entry))) c (now (entries .entry)); known = allKnown (now (jobs .entry)) (now (entries .entry)) } ⌝ }
+    ensures { λ r. ⌜ r ≡ record { ticks = ticks (lists (now (tasks .entry)) (now (jobs .entry))) c (now (entries .entry)); known = allJobsOrIdle (now (jobs .entry)) (now (entries .entry)) } ⌝ }
 {
     let mut sum: u64 = 0;
     let mut all = true;
     let mut i: usize = 0;
     while i < entries.len() {
         let entry = entries[i];
-        let here = known(jobs, entry);
-        sum += one_if(here & (column(tasks, jobs, entry) == c));
+        let here = job_or_idle(jobs, entry);
+        sum += one_if(here & (column(tasks, jobs, entry) == c)) as u64;
         all = all & here;
         i += 1;
     }
@@ -87,7 +80,7 @@ pub(crate) fn count_on(
     requires { ⌜ Checked (lists (now tasks) (now jobs)) ⌝ }
     requires { ⌜ counts ≡ countsOf (lists (now tasks) (now jobs)) (take (r * 64) (now schedule)) ⌝ }
     requires { ⌜ ((r + 1) * 64 ≤ length (now schedule)) × (length (now schedule) ≤ 16384) ⌝ }
-    requires { ⌜ (allKnown (now jobs) (take ((r + 1) * 64) (now schedule)) ≡ Bool.true) ⌝ }
+    requires { ⌜ (allJobsOrIdle (now jobs) (take ((r + 1) * 64) (now schedule)) ≡ Bool.true) ⌝ }
     ensures { λ out. ⌜ out ≡ countsOf (lists (now (tasks .entry)) (now (jobs .entry))) (take ((r + 1) * 64) (now (schedule .entry))) ⌝ }
 {
     let mut out = counts;

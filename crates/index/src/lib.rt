@@ -2,28 +2,24 @@
 // which answers how many ticks a task had between two moments, and follows the schedule when one entry is replaced.
 ghost use mathlib.Core.Path.{_≡_};
 ghost use Rattle.index.specs.Answers.{betweenAnswer, buildAnswer, buildIndex, replaceAnswer, replaceIndex, replaceSchedule};
-ghost use Rattle.index.specs.Counts.{given};
+ghost use Rattle.index.specs.Counts.{plan};
 use changes::check_replace;
 use changes::move_rows;
 use counts::column;
-use ends::difference;
-use ends::end_at;
+use ends::between_ends;
 use refusals::check_asked;
 use refusals::check_build;
 use rows::write_rows;
 use tables::Outcome;
 
+mod answers;
 mod changes;
 mod counts;
 mod ends;
 mod refusals;
 mod rows;
 
-// The answer about a range of ticks: how many of them, or a refusal's number and place.
-pub enum Count {
-    Refused(u32, u32),
-    Ticks(u32),
-}
+pub use answers::Count;
 
 // The index of the schedule, written whole: of each multiple of 64 from 0 to the horizon a row, the ticks before it given to each task and,
 // last, idle. Refusals: 2 to 10, then 16 for an index of another length, or an entry before the last multiple that is neither job nor idle.
@@ -35,8 +31,8 @@ pub fn build(
     schedule: &[u16],
     index: &mut [u32],
 ) -> Outcome
-    ensures answers { λ r. ⌜ r ≡ buildAnswer (given (now (tasks .entry)) (now (jobs .entry)) horizon) (now (schedule .entry)) (now (index .entry)) ⌝ }
-    ensures writes { λ r. ⌜ now (index .exit) ≡ buildIndex (given (now (tasks .entry)) (now (jobs .entry)) horizon) (now (schedule .entry)) (now (index .entry)) ⌝ }
+    ensures answers { λ r. ⌜ r ≡ buildAnswer (plan (now (tasks .entry)) (now (jobs .entry)) horizon) (now (schedule .entry)) (now (index .entry)) ⌝ }
+    ensures writes { λ r. ⌜ now (index .exit) ≡ buildIndex (plan (now (tasks .entry)) (now (jobs .entry)) horizon) (now (schedule .entry)) (now (index .entry)) ⌝ }
 {
     let found = check_build(tasks, jobs, horizon, schedule, index);
     match found {
@@ -61,7 +57,7 @@ pub fn between(
     a: u32,
     b: u32,
 ) -> Count
-    ensures { λ r. ⌜ r ≡ betweenAnswer (given (now (tasks .entry)) (now (jobs .entry)) horizon) (now (schedule .entry)) (now (index .entry)) task a b ⌝ }
+    ensures { λ r. ⌜ r ≡ betweenAnswer (plan (now (tasks .entry)) (now (jobs .entry)) horizon) (now (schedule .entry)) (now (index .entry)) task a b ⌝ }
 {
     let asked = check_asked(
         tasks,
@@ -74,28 +70,7 @@ pub fn between(
         b,
     );
     match asked {
-        Outcome::Done => {
-            let c = task as usize;
-            let first = end_at(
-                tasks,
-                jobs,
-                schedule,
-                index,
-                c,
-                (a / 64) as usize,
-                a as usize,
-            );
-            let second = end_at(
-                tasks,
-                jobs,
-                schedule,
-                index,
-                c,
-                (b / 64) as usize,
-                b as usize,
-            );
-            difference(horizon, first, second)
-        }
+        Outcome::Done => { between_ends(tasks, jobs, horizon, schedule, index, task, a, b) }
         Outcome::Refused(number, place) => Count::Refused(number, place),
     }
 }
@@ -113,9 +88,9 @@ pub fn replace(
     tick: u32,
     entry: u16,
 ) -> Outcome
-    ensures answers { λ r. ⌜ r ≡ replaceAnswer (given (now (tasks .entry)) (now (jobs .entry)) horizon) (now (schedule .entry)) (now (index .entry)) tick entry ⌝ }
-    ensures schedules { λ r. ⌜ now (schedule .exit) ≡ replaceSchedule (given (now (tasks .entry)) (now (jobs .entry)) horizon) (now (schedule .entry)) (now (index .entry)) tick entry ⌝ }
-    ensures indexes { λ r. ⌜ now (index .exit) ≡ replaceIndex (given (now (tasks .entry)) (now (jobs .entry)) horizon) (now (schedule .entry)) (now (index .entry)) tick entry ⌝ }
+    ensures answers { λ r. ⌜ r ≡ replaceAnswer (plan (now (tasks .entry)) (now (jobs .entry)) horizon) (now (schedule .entry)) (now (index .entry)) tick entry ⌝ }
+    ensures schedules { λ r. ⌜ now (schedule .exit) ≡ replaceSchedule (plan (now (tasks .entry)) (now (jobs .entry)) horizon) (now (schedule .entry)) (now (index .entry)) tick entry ⌝ }
+    ensures indexes { λ r. ⌜ now (index .exit) ≡ replaceIndex (plan (now (tasks .entry)) (now (jobs .entry)) horizon) (now (schedule .entry)) (now (index .entry)) tick entry ⌝ }
 {
     let found = check_replace(tasks, jobs, horizon, schedule, index, tick, entry);
     match found {

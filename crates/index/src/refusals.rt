@@ -4,27 +4,15 @@ ghost use Prim.Native.Nat.{_≤_};
 ghost use lib.ListN.{length};
 ghost use Rattle.tables.specs.Tables.{taskCount};
 ghost use Rattle.index.specs.Answers.{buildAnswer, checkAsked, checkPlaced};
-ghost use Rattle.index.specs.Counts.{given};
-ghost use Rattle.index.specs.Refusals.{checkGiven, checkLength, checkRange, checkTask, checkTick};
-use crate::counts::all_known;
+ghost use Rattle.index.specs.Counts.{plan};
+ghost use Rattle.index.specs.Refusals.{checkLength, checkRange, checkTask, checkTick};
+use crate::counts::all_jobs_or_idle;
 use crate::rows::row_at;
 use crate::rows::row_count;
 use tables::Outcome;
 use tables::before;
-use tables::check_lists;
-use tables::check9;
-use tables::check10;
+use tables::check_schedule;
 use tables::refuse;
-
-// 2 to 10: what every call checks first.
-fn check_given(tasks: &[u32], jobs: &[u32], horizon: u32, entries: usize) -> Outcome
-    ensures { λ r. ⌜ r ≡ checkGiven (given (now (tasks .entry)) (now (jobs .entry)) horizon) entries ⌝ }
-{
-    before(
-        check_lists(tasks, jobs),
-        before(check9(horizon), check10(entries, horizon)),
-    )
-}
 
 // 16: an index of the wrong length.
 fn check_length(tasks: &[u32], horizon: u32, numbers: usize) -> Outcome
@@ -64,13 +52,13 @@ pub(crate) fn check_build(
     schedule: &[u16],
     index: &[u32],
 ) -> Outcome
-    ensures { λ r. ⌜ r ≡ buildAnswer (given (now (tasks .entry)) (now (jobs .entry)) horizon) (now (schedule .entry)) (now (index .entry)) ⌝ }
+    ensures { λ r. ⌜ r ≡ buildAnswer (plan (now (tasks .entry)) (now (jobs .entry)) horizon) (now (schedule .entry)) (now (index .entry)) ⌝ }
 {
-    let checked = check_given(tasks, jobs, horizon, schedule.len());
+    let checked = check_schedule(tasks, jobs, horizon, schedule.len());
     match checked {
         Outcome::Done => {
             let end = (horizon / 64 * 64) as usize;
-            let built = all_known(jobs, &schedule[..end]);
+            let built = all_jobs_or_idle(jobs, &schedule[..end]);
             before(
                 check_length(tasks, horizon, index.len()),
                 refuse(!built, 16, 0),
@@ -91,9 +79,9 @@ pub(crate) fn check_asked(
     a: u32,
     b: u32,
 ) -> Outcome
-    ensures { λ r. ⌜ r ≡ checkAsked (given (now (tasks .entry)) (now (jobs .entry)) horizon) entries numbers task a b ⌝ }
+    ensures { λ r. ⌜ r ≡ checkAsked (plan (now (tasks .entry)) (now (jobs .entry)) horizon) entries numbers task a b ⌝ }
 {
-    let checked = check_given(tasks, jobs, horizon, entries);
+    let checked = check_schedule(tasks, jobs, horizon, entries);
     match checked {
         Outcome::Done => {
             let length = check_length(tasks, horizon, numbers);
@@ -115,9 +103,9 @@ pub(crate) fn check_placed(
     numbers: usize,
     tick: u32,
 ) -> Outcome
-    ensures { λ r. ⌜ r ≡ checkPlaced (given (now (tasks .entry)) (now (jobs .entry)) horizon) entries numbers tick ⌝ }
+    ensures { λ r. ⌜ r ≡ checkPlaced (plan (now (tasks .entry)) (now (jobs .entry)) horizon) entries numbers tick ⌝ }
 {
-    let checked = check_given(tasks, jobs, horizon, entries);
+    let checked = check_schedule(tasks, jobs, horizon, entries);
     match checked {
         Outcome::Done => before(
             check_tick(horizon, tick),

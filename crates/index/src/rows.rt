@@ -6,9 +6,9 @@ ghost use lib.ListN.{length};
 ghost use lib.Seq.{paste};
 ghost use Rattle.tables.specs.Tables.{lists, taskCount};
 ghost use Rattle.index.specs.Code.{Checked, Sized};
-ghost use Rattle.index.specs.Counts.{allKnown, given};
+ghost use Rattle.index.specs.Counts.{allJobsOrIdle, plan};
 ghost use Rattle.index.specs.Refusals.{builtFrom};
-ghost use Rattle.index.specs.Rows.{indexOf, rowCount, width};
+ghost use Rattle.index.specs.Rows.{indexOf, rowCount, rowWidth};
 use crate::counts::count_on;
 
 // How many rows an index has.
@@ -28,7 +28,7 @@ pub(crate) fn first_past(tick: u32) -> usize
 // Where row r begins.
 pub(crate) fn row_at(tasks: &[u32], r: usize) -> usize
     requires { ⌜ (taskCount (now tasks) ≤ 16) × (r ≤ 257) ⌝ }
-    ensures is { λ at. ⌜ at ≡ r * width (now (tasks .entry)) ⌝ }
+    ensures is { λ at. ⌜ at ≡ r * rowWidth (now (tasks .entry)) ⌝ }
     ensures small { λ at. ⌜ at ≤ 4369 ⌝ }
 {
     r * (tasks.len() / 7 + 1)
@@ -37,8 +37,8 @@ pub(crate) fn row_at(tasks: &[u32], r: usize) -> usize
 // Row r is what the counts hold.
 fn put_row(tasks: &[u32], counts: [u32; 17], r: usize, index: &mut [u32])
     requires { ⌜ (taskCount (now tasks) ≤ 16) × (r ≤ 257) ⌝ }
-    requires { ⌜ r * width (now tasks) + width (now tasks) ≤ length (now index) ⌝ }
-    ensures { λ _. ⌜ now (index .exit) ≡ paste (now (index .entry)) (r * width (now (tasks .entry))) counts (width (now (tasks .entry))) ⌝ }
+    requires { ⌜ r * rowWidth (now tasks) + rowWidth (now tasks) ≤ length (now index) ⌝ }
+    ensures { λ _. ⌜ now (index .exit) ≡ paste (now (index .entry)) (r * rowWidth (now (tasks .entry))) counts (rowWidth (now (tasks .entry))) ⌝ }
 {
     let width = tasks.len() / 7 + 1;
     let at = row_at(tasks, r);
@@ -60,8 +60,8 @@ pub(crate) fn write_rows(
     requires { ⌜ Checked (lists (now tasks) (now jobs)) ⌝ }
     requires { ⌜ Sized (now tasks) horizon (now index) ⌝ }
     requires { ⌜ length (now schedule) ≡ horizon ⌝ }
-    requires { ⌜ allKnown (now jobs) (builtFrom horizon (now schedule)) ≡ Bool.true ⌝ }
-    ensures { λ _. ⌜ now (index .exit) ≡ indexOf (given (now (tasks .entry)) (now (jobs .entry)) horizon) (now (schedule .entry)) ⌝ }
+    requires { ⌜ allJobsOrIdle (now jobs) (builtFrom horizon (now schedule)) ≡ Bool.true ⌝ }
+    ensures { λ _. ⌜ now (index .exit) ≡ indexOf (plan (now (tasks .entry)) (now (jobs .entry)) horizon) (now (schedule .entry)) ⌝ }
 {
     let last = (horizon / 64) as usize;
     let mut counts = [0u32; 17];

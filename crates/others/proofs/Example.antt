@@ -10,11 +10,13 @@ use lib.Dec.{eqb, ltb}
 use lib.ListN.{getD, length, replicate}
 use Rattle.bits.specs.Below.{every, greatest, least, listFrom, some}
 use Rattle.tables.specs.declared.fields.Job.{Job}
-use Rattle.tables.specs.declared.outcome.Outcome.{Outcome}
-use Rattle.tables.specs.declared.outcome.Outcome.the-variants.{Done}
-use Rattle.tables.specs.Refusals.{ascending, before, check10, check13, check2, check3, check4, check5, check6, check7, check8, check9, checkJobs, checkLists, checkTasks, outside, preceding, refuse, unless}
+use Rattle.tables.specs.declared.answers.Outcome.{Outcome}
+use Rattle.tables.specs.declared.answers.Outcome.the-variants.{Done}
+use Rattle.tables.specs.Refusals.{ascending, before, check10, check13, check2, check3, check4, check5, check6, check7}
+use Rattle.tables.specs.Refusals.{check8, check9, checkJobs, checkLists, checkTasks, outside, preceding, refuse, unless, checkSchedule}
 use Rattle.tables.specs.Said.{done, outcomeSaid}
-use Rattle.tables.specs.Tables.{arrival, criticality, deadline, deadlineInstant, execution, jobCount, jobCriticality, jobNominal, jobPriority, lists, nominal, offset, overload, period, priority, taskCount, taskOf, zeroSlackInstant}
+use Rattle.tables.specs.Tables.{arrival, criticality, deadline, deadlineInstant, execution, jobCount, jobCriticality, jobNominal, jobPriority}
+use Rattle.tables.specs.Tables.{lists, nominal, offset, overload, period, priority, taskCount, taskOf, zeroSlackInstant}
 use Rattle.tables.proofs.Laws.Refusals.{before-first}
 use Rattle.zsrm.specs.declared.answers.Verdict.{Verdict}
 use Rattle.zsrm.specs.declared.answers.Verdict.the-variants.{Late, Met}
@@ -24,11 +26,12 @@ use Rattle.zsrm.specs.declared.record.Standing.{Standing}
 use Rattle.zsrm.specs.declared.record.Standing.the-variants.{Finished, Unfinished}
 use Rattle.zsrm.specs.declared.tie.Tie.{Tie}
 use Rattle.zsrm.specs.declared.tie.Tie.the-variants.{Lowest, Stay}
-use Rattle.zsrm.specs.Answers.{checkSchedule, checkVerdict, ran, runAnswer, runSchedule, verdictAnswer}
+use Rattle.zsrm.specs.Answers.{checkVerdict, ran, runAnswer, runSchedule, verdictAnswer}
 use Rattle.zsrm.specs.Given.{Given, given}
 use Rattle.zsrm.specs.Record.{arrived, arriving, check11, consistent, doneAt, fresh, freshPlace, opening, placeAt, soundAt, soundPrevious, standingAt, suspendedAt, waitedAt}
 use Rattle.zsrm.specs.Run.{entriesBy, finalBy, replay, runEntries, runRecord}
-use Rattle.zsrm.specs.Tick.{advanced, alive, candidate, choice, doneAfter, eligible, ends, finishes, goesOn, higherPriority, keeps, lowest, moreCritical, over, pastZeroSlack, placeAfter, someJob, standingAfter, suspended, suspendedAfter, waitedAfter, waits}
+use Rattle.zsrm.specs.Tick.{advanced, alive, candidate, choice, doneAfter, eligible, ends, finishes, goesOn, higherPriority, keeps}
+use Rattle.zsrm.specs.Tick.{lowest, moreCritical, over, pastZeroSlack, placeAfter, someJob, standingAfter, suspended, suspendedAfter, waitedAfter, waits}
 use Rattle.zsrm.specs.Traced.{both, equals, fig1, listA}
 use Rattle.zsrm.specs.Verdict.{verdict}
 use Rattle.others.specs.Others.{Share, held, membersJobs, outsideLower, outsideNoMoreCritical, passing, share, shares, ticksOf, toEachMember}
@@ -172,11 +175,17 @@ otherOrder =
           };
     }
 
-unfoldable pub table : List Case
-table = below ∷ moreCriticalOutside ∷ betweenMembers ∷ equalOutside ∷ otherOrder ∷ []
+unfoldable pub cases : List Case
+cases = below ∷ moreCriticalOutside ∷ betweenMembers ∷ equalOutside ∷ otherOrder ∷ []
 
-pub shown-by-computing : (mode : Mode) (tie : Tie) → map (computed mode tie) table ≡ map said table
-unfolding table said computed sideOf passing ticksOf toEachMember outsideLower outsideNoMoreCritical membersJobs held share shares some every least greatest listFrom taskCount period deadline nominal overload criticality priority offset jobCount taskOf arrival execution jobCriticality jobPriority jobNominal zeroSlackInstant deadlineInstant refuse before ascending outside check2 check3 check4 checkTasks check5 preceding check6 check7 check8 checkJobs checkLists check9 check10 check11 check13 placeAt doneAt suspendedAt waitedAt standingAt arriving arrived opening freshPlace fresh soundAt soundPrevious consistent alive someJob moreCritical higherPriority pastZeroSlack suspended eligible candidate lowest keeps choice doneAfter over ends finishes suspendedAfter waits waitedAfter goesOn standingAfter placeAfter advanced replay entriesBy finalBy runEntries runRecord verdict unless ran checkSchedule checkVerdict runAnswer runSchedule verdictAnswer
+pub shown-by-computing : (mode : Mode) (tie : Tie) → map (computed mode tie) cases ≡ map said cases
+unfolding cases said computed sideOf passing ticksOf toEachMember outsideLower outsideNoMoreCritical membersJobs held share shares some every least
+    greatest listFrom taskCount period deadline nominal overload criticality priority offset jobCount taskOf arrival execution jobCriticality
+    jobPriority jobNominal zeroSlackInstant deadlineInstant refuse before ascending outside check2 check3 check4 checkTasks check5 preceding check6
+    check7 check8 checkJobs checkLists check9 check10 check11 check13 placeAt doneAt suspendedAt waitedAt standingAt arriving arrived opening
+    freshPlace fresh soundAt soundPrevious consistent alive someJob moreCritical higherPriority pastZeroSlack suspended eligible candidate lowest
+    keeps choice doneAfter over ends finishes suspendedAfter waits waitedAfter goesOn standingAfter placeAfter advanced replay entriesBy finalBy
+    runEntries runRecord verdict unless ran checkSchedule checkVerdict runAnswer runSchedule verdictAnswer
 shown-by-computing S Stay = refl
 shown-by-computing S Lowest = refl
 shown-by-computing SE Stay = refl
@@ -184,11 +193,12 @@ shown-by-computing SE Lowest = refl
 
 -- So without "not more critical" the promise is false.
 pub needs-no-more-critical : (mode : Mode) (tie : Tie)
-    → ((set : ℕ → Bool) (tasks a b : List ℕ) → outsideLower set tasks ≡ true → outcomeSaid (checkLists (lists tasks a)) ≡ done → outcomeSaid (checkLists (lists tasks b)) ≡ done → held set a ≡ held set b
+    → ((set : ℕ → Bool) (tasks a b : List ℕ) → outsideLower set tasks ≡ true
+    → outcomeSaid (checkLists (lists tasks a)) ≡ done → outcomeSaid (checkLists (lists tasks b)) ≡ done → held set a ≡ held set b
     → (horizon : ℕ) → horizon ≤ 16384 → (lent-a lent-b : List ℕ) → length lent-a ≡ horizon → length lent-b ≡ horizon
     → shares (given mode tasks a) tie horizon lent-a set ≡ shares (given mode tasks b) tie horizon lent-b set)
     → ⊥
-unfolding table said computed sideOf runAnswer ran checkSchedule outcomeSaid
+unfolding cases said computed sideOf runAnswer ran checkSchedule outcomeSaid
 needs-no-more-critical mode tie promise = omega (arith, ap ticksOfFirst same)
   where
     c : Case

@@ -8,26 +8,30 @@ use native.Mathlib.Omega.{arith}
 use lib.ListN.{drop, getD-replicate, length, length-replicate, replicate}
 use lib.Seq.{ext-getD, getD-drop}
 use Rattle.bits.specs.Below.{every, greatest, least, listFrom, some}
-use Rattle.tables.specs.declared.outcome.Outcome.the-variants.{Done}
-use Rattle.tables.specs.Refusals.{ascending, before, check10, check13, check2, check3, check4, check5, check6, check7, check8, check9, checkJobs, checkLists, checkTasks, outside, preceding, refuse, unless}
+use Rattle.tables.specs.declared.answers.Outcome.the-variants.{Done}
+use Rattle.tables.specs.Refusals.{ascending, before, check10, check13, check2, check3, check4, check5, check6, check7}
+use Rattle.tables.specs.Refusals.{check8, check9, checkJobs, checkLists, checkTasks, outside, preceding, refuse, unless, checkSchedule}
 use Rattle.tables.specs.Said.{outcomeSaid}
-use Rattle.tables.specs.Tables.{arrival, criticality, deadline, deadlineInstant, execution, jobCount, jobCriticality, jobNominal, jobPriority, nominal, offset, overload, period, priority, taskCount, taskOf, zeroSlackInstant}
+use Rattle.tables.specs.Tables.{arrival, criticality, deadline, deadlineInstant, execution, jobCount, jobCriticality, jobNominal, jobPriority}
+use Rattle.tables.specs.Tables.{nominal, offset, overload, period, priority, taskCount, taskOf, zeroSlackInstant}
 use Rattle.zsrm.specs.declared.answers.Verdict.{Verdict}
 use Rattle.zsrm.specs.declared.answers.Verdict.the-variants.{Ended, Met, Open, Refused}
 use Rattle.zsrm.specs.declared.mode.Mode.{Mode}
 use Rattle.zsrm.specs.declared.mode.Mode.the-variants.{S, SE}
-use Rattle.zsrm.specs.Answers.{checkSchedule, checkVerdict, verdictAnswer}
+use Rattle.zsrm.specs.Answers.{checkVerdict, verdictAnswer}
 use Rattle.zsrm.specs.Record.{arrived, arriving, check11, consistent, doneAt, fresh, freshPlace, opening, placeAt, soundAt, soundPrevious, standingAt, suspendedAt, waitedAt}
 use Rattle.zsrm.specs.Run.{entriesBy, finalBy, replay, runRecord}
 use Rattle.zsrm.specs.Said.{verdictSaid}
-use Rattle.zsrm.specs.Tick.{advanced, alive, candidate, choice, doneAfter, eligible, ends, finishes, goesOn, higherPriority, keeps, lowest, moreCritical, over, pastZeroSlack, placeAfter, someJob, standingAfter, suspended, suspendedAfter, waitedAfter, waits}
+use Rattle.zsrm.specs.Tick.{advanced, alive, candidate, choice, doneAfter, eligible, ends, finishes, goesOn, higherPriority, keeps}
+use Rattle.zsrm.specs.Tick.{lowest, moreCritical, over, pastZeroSlack, placeAfter, someJob, standingAfter, suspended, suspendedAfter, waitedAfter, waits}
 use Rattle.zsrm.specs.Verdict.{verdict}
 use Rattle.zsrm.proofs.Laws.Said.{verdict-said}
-use Rattle.planter.specs.declared.admission.Admission.{Admission}
-use Rattle.planter.specs.declared.admission.Change.{Change}
-use Rattle.planter.specs.Admission.{admission, admitAnswer, appended, changeAt, refusedAdmission, verdictIn}
+use Rattle.planter.specs.declared.answers.Admission.{Admission}
+use Rattle.planter.specs.declared.answers.Change.{Change}
+use Rattle.planter.specs.Admission.{appended, changeAt, verdictIn}
+use Rattle.planter.specs.Answers.{admission, admitAnswer, refusedAdmission}
 use Rattle.planter.specs.Table.{depth}
-use Rattle.planter.proofs.Admitted.{past-thirteen}
+use Rattle.planter.proofs.Promise.Admitted.{past-thirteen}
 
 abbrev day : List ℕ
 day = (0 ∷ 0 ∷ 8 ∷ []) ++ (1 ∷ 0 ∷ 4 ∷ []) ++ (2 ∷ 0 ∷ 6 ∷ [])
@@ -49,7 +53,12 @@ got mode = admitAnswer mode day 20 depth 10 4
 
 -- the four jobs, by computation
 front : (mode : Mode) → (got mode ≡ record { outcome = Done; count = 4; changes = changes mode ++ drop 4 (got mode .changes) }) × (length (drop 4 (got mode .changes)) ≡ 60)
-unfolding some every least greatest listFrom taskCount period deadline nominal overload criticality priority offset jobCount taskOf arrival execution jobCriticality jobPriority jobNominal zeroSlackInstant deadlineInstant refuse before ascending outside check2 check3 check4 checkTasks check5 preceding check6 check7 check8 checkJobs checkLists check9 check10 check11 check13 placeAt doneAt suspendedAt waitedAt standingAt arriving arrived opening freshPlace fresh soundAt soundPrevious consistent alive someJob moreCritical higherPriority pastZeroSlack suspended eligible candidate lowest keeps choice doneAfter over ends finishes suspendedAfter waits waitedAfter goesOn standingAfter placeAfter advanced replay entriesBy finalBy runRecord verdict unless checkSchedule checkVerdict verdictAnswer verdictIn changeAt refusedAdmission admission appended admitAnswer
+unfolding some every least greatest listFrom taskCount period deadline nominal overload criticality priority offset jobCount taskOf arrival execution
+    jobCriticality jobPriority jobNominal zeroSlackInstant deadlineInstant refuse before ascending outside check2 check3 check4 checkTasks check5
+    preceding check6 check7 check8 checkJobs checkLists check9 check10 check11 check13 placeAt doneAt suspendedAt waitedAt standingAt arriving arrived
+    opening freshPlace fresh soundAt soundPrevious consistent alive someJob moreCritical higherPriority pastZeroSlack suspended eligible candidate
+    lowest keeps choice doneAfter over ends finishes suspendedAfter waits waitedAfter goesOn standingAfter placeAfter advanced replay entriesBy
+    finalBy runRecord verdict unless checkSchedule checkVerdict verdictAnswer verdictIn changeAt refusedAdmission admission appended admitAnswer
 front S = (refl, refl)
 front SE = (refl, refl)
 

@@ -1,10 +1,4 @@
 pub mod Promise
-pub mod Timely
-pub mod NeverLate
-pub mod Pieces
-pub mod Appended
-pub mod Changes
-pub mod Shorter
-pub mod Admitted
+pub mod Laws
 pub mod Example
 pub mod Unique

@@ -8,6 +8,7 @@ use Rattle.planter.proofs.admission.admit.Reads as admit
 use Rattle.planter.proofs.calls.claim.Reads as claim
 use Rattle.planter.proofs.calls.fresh.Reads as fresh
 use Rattle.planter.proofs.calls.go_on.Reads as go-on
+use Rattle.planter.proofs.calls.replay.Reads as replay
 use Rattle.planter.proofs.calls.response.Reads as response
 use Rattle.planter.proofs.calls.run.Reads as run
 use Rattle.planter.proofs.calls.step.Reads as step
@@ -29,6 +30,9 @@ run-one κs a r s e f p q = (p .0 ∙ sym (q .0), p .1 ∙ sym (q .1))
 
 pub claim-one : (κs : Lfts 2) (a : _) (r s : _) (e f : _) → claim.Learnt κs a r e → claim.Learnt κs a s f → r ≡ s
 claim-one κs a r s e f p q = p ∙ sym q
+
+pub replay-one : (κs : Lfts 2) (a : _) (r s : _) (e f : _) → replay.Learnt κs a r e → replay.Learnt κs a s f → r ≡ s
+replay-one κs a r s e f p q = p ∙ sym q
 
 pub verdict-one : (κs : Lfts 1) (a : _) (r s : _) (e f : _) → verdict.Learnt κs a r e → verdict.Learnt κs a s f → r ≡ s
 verdict-one κs a r s e f p q = p ∙ sym q

@@ -2,20 +2,14 @@
 -- the horizon changes.
 use Prim.Native.Nat.{ℕ}
 use mathlib.Core.List.{List, [], _∷_, _++_}
-use lib.ListN.{replicate}
-use Rattle.bits.specs.Below.{listFrom}
-use Rattle.tables.specs.declared.outcome.Outcome.the-variants as outcomes
-use Rattle.tables.specs.Refusals.{unless}
-use Rattle.tables.specs.Tables.{jobCount, lists}
 use Rattle.zsrm.specs.declared.answers.Verdict.{Verdict}
 use Rattle.zsrm.specs.declared.answers.Verdict.the-variants as verdicts
 use Rattle.zsrm.specs.declared.mode.Mode.{Mode}
 use Rattle.zsrm.specs.declared.tie.Tie.the-variants.{Stay}
-use Rattle.zsrm.specs.Answers.{checkSchedule, verdictAnswer}
+use Rattle.zsrm.specs.Answers.{verdictAnswer}
 use Rattle.zsrm.specs.Run.{runRecord}
-use Rattle.planter.specs.declared.admission.Admission.{Admission}
-use Rattle.planter.specs.declared.admission.Change.{Change}
-use Rattle.planter.specs.Table.{planter, table}
+use Rattle.planter.specs.declared.answers.Change.{Change}
+use Rattle.planter.specs.Table.{planter}
 
 -- The list with the offered job appended.
 unfoldable pub appended : List ℕ → ℕ → ℕ → ℕ → List ℕ
@@ -32,17 +26,3 @@ changeAt mode jobs longer horizon j = record { before = verdictIn mode jobs hori
 -- Every number of a refused answer is 0.
 abbrev pub blankChange : Change
 blankChange = record { before = verdicts.Refused 0 0; after = verdicts.Refused 0 0 }
-
--- A refused admission counts no job, and every change is blank.
-unfoldable pub refusedAdmission : ℕ → ℕ → Admission
-refusedAdmission number place = record { outcome = outcomes.Refused number place; count = 0; changes = replicate 64 blankChange }
-
--- From a list to a longer one. It is refused with exactly what a run of the longer list is refused with, whose schedule is as long as the
--- horizon.
-unfoldable pub admission : Mode → List ℕ → List ℕ → ℕ → Admission
-admission mode jobs longer horizon =
-    unless (checkSchedule (lists table longer) horizon horizon) refusedAdmission
-    (record { outcome = outcomes.Done; count = jobCount longer; changes = listFrom 0 64 (changeAt mode jobs longer horizon) })
-
-unfoldable pub admitAnswer : Mode → List ℕ → ℕ → ℕ → ℕ → ℕ → Admission
-admitAnswer mode jobs horizon task arrival execution = admission mode jobs (appended jobs task arrival execution) horizon

@@ -1,3 +1,4 @@
 pub mod Table
 pub mod Admission
+pub mod Answers
 pub mod Code

@@ -4,14 +4,17 @@ ghost use mathlib.Core.Path.{_≡_};
 ghost use Prim.Native.Nat.{_+_, _<_, _≤_};
 ghost use lib.ListN.{length, take};
 ghost use Rattle.bits.specs.Below.{listFrom};
-ghost use Rattle.tables.specs.declared.outcome.Outcome.{Outcome};
+ghost use Rattle.tables.specs.declared.answers.Outcome.{Outcome};
 ghost use Rattle.tables.specs.Tables.{lists};
+ghost use Rattle.tables.specs.Refusals.{checkSchedule};
 ghost use Rattle.zsrm.specs.declared.tie.Tie.{Tie};
-ghost use Rattle.zsrm.specs.Answers.{checkSchedule};
 ghost use Rattle.zsrm.specs.Run.{runRecord};
 ghost use Rattle.planter.specs.Table.{planter, table};
-ghost use Rattle.planter.specs.Admission.{admission, admitAnswer, appended, refusedAdmission};
+ghost use Rattle.planter.specs.Admission.{appended};
+ghost use Rattle.planter.specs.Answers.{admission, admitAnswer, refusedAdmission};
 ghost use Rattle.planter.specs.Code.{OnTheWay, changeOf};
+use crate::answers::Admission;
+use crate::answers::Change;
 use crate::calls::fresh;
 use crate::calls::go_on;
 use crate::calls::verdicts;
@@ -26,22 +29,8 @@ use zsrm::Record;
 use zsrm::Verdict;
 use zsrm::Verdicts;
 
-// The verdict on one job without and with the offered job.
-pub struct Change {
-    pub before: Verdict,
-    pub after: Verdict,
-}
-
-// The answer to an offered job: how many jobs the longer list has, and the change of each by its number. From that count on both verdicts
-// are refused with 13, as `verdict` refuses a job that is not in the list; where the admission is refused, every number here is 0.
-pub struct Admission {
-    pub outcome: Outcome,
-    pub count: u32,
-    pub changes: [Change; 64],
-}
-
 // A refused admission counts no job, and every change is blank.
-fn refused(number: u32, place: u32) -> Admission
+fn refused_admission(number: u32, place: u32) -> Admission
     ensures { λ r. ⌜ r ≡ refusedAdmission number place ⌝ }
 {
     let blank = Change {
@@ -101,7 +90,7 @@ fn run_to(mode: Mode, jobs: &[u32], horizon: u32) -> Record
 fn changed(count: u32, old: Verdicts, new: Verdicts) -> Admission
     ensures { λ r. ⌜ r ≡ record { outcome = Outcome.Done; count = count; changes = listFrom 0 64 (changeOf old new) } ⌝ }
 {
-    let mut out = refused(0, 0);
+    let mut out = refused_admission(0, 0);
     let mut j: usize = 0;
     while j < 64 {
         let without = old.of[j];
@@ -120,7 +109,7 @@ fn changed(count: u32, old: Verdicts, new: Verdicts) -> Admission
 }
 
 // The caller's list with the offered job appended, where there is room for it; zeros behind it.
-fn append(jobs: &[u32], task: u32, arrival: u32, execution: u32) -> [u32; 192]
+fn append_job(jobs: &[u32], task: u32, arrival: u32, execution: u32) -> [u32; 192]
     requires { ⌜ length (now jobs) + 3 ≤ 192 ⌝ }
     ensures long { λ r. ⌜ length r ≡ 192 ⌝ }
     ensures holds { λ r. ⌜ take (length (now (jobs .entry)) + 3) r ≡ appended (now (jobs .entry)) task arrival execution ⌝ }
@@ -157,7 +146,7 @@ fn weighed(mode: Mode, jobs: &[u32], longer: &[u32], horizon: u32) -> Admission
     let checked = check_run(longer, horizon);
     match checked {
         Outcome::Done => compared(mode, jobs, longer, horizon),
-        Outcome::Refused(number, place) => refused(number, place),
+        Outcome::Refused(number, place) => refused_admission(number, place),
     }
 }
 
@@ -174,9 +163,9 @@ pub fn admit(
     ensures { λ r. ⌜ r ≡ admitAnswer mode (now (jobs .entry)) horizon task arrival execution ⌝ }
 {
     if 189 < jobs.len() {
-        return refused(5, 0);
+        return refused_admission(5, 0);
     }
-    let longer = append(jobs, task, arrival, execution);
+    let longer = append_job(jobs, task, arrival, execution);
     let n = jobs.len() + 3;
     weighed(mode, jobs, &longer[..n], horizon)
 }

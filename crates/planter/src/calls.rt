@@ -2,17 +2,16 @@
 // library answers there, refusals too.
 ghost use mathlib.Core.Path.{_≡_};
 ghost use Rattle.zsrm.specs.declared.tie.Tie.{Tie};
-ghost use Rattle.zsrm.specs.Answers.{claimAnswer, freshAnswer, goOnAnswer, goOnSchedule, responseAnswer, runAnswer, runSchedule, stepAnswer, verdictAnswer, verdictsAnswer, witnessAnswer};
+ghost use Rattle.zsrm.specs.Answers.{claimAnswer, freshAnswer, goOnAnswer, goOnSchedule, replayAnswer, responseAnswer};
+ghost use Rattle.zsrm.specs.Answers.{runAnswer, runSchedule, stepAnswer, verdictAnswer, verdictsAnswer, witnessAnswer};
 ghost use Rattle.zsrm.specs.Verdict.{Shows};
 ghost use Rattle.planter.specs.Table.{planter, table};
 use crate::tasks::TABLE;
 use zsrm::Claim;
-use zsrm::IDLE;
 use zsrm::Mode;
-use zsrm::Place;
 use zsrm::Ran;
 use zsrm::Record;
-use zsrm::Standing;
+use zsrm::Replayed;
 use zsrm::Stepped;
 use zsrm::Tie;
 use zsrm::Verdict;
@@ -23,17 +22,7 @@ use zsrm::Witness;
 pub fn fresh(jobs: &[u32]) -> Ran
     ensures { λ r. ⌜ r ≡ freshAnswer table (now (jobs .entry)) ⌝ }
 {
-    let empty = Place {
-        done: 0,
-        suspended: 0,
-        waited: 0,
-        standing: Standing::NotArrived,
-    };
-    let stale = Record {
-        tick: 0,
-        previous: IDLE,
-        places: [empty; 64],
-    };
+    let stale = Record::blank();
     stale.fresh(&TABLE, jobs)
 }
 
@@ -68,14 +57,22 @@ pub fn claim(mode: Mode, jobs: &[u32], horizon: u32, schedule: &[u16]) -> Claim
     zsrm::claim(mode, &TABLE, jobs, horizon, schedule)
 }
 
-// The verdict on a job from a record, such as a run returns; refusals 5 to 8, 11, 13.
+// A claimed schedule replayed: the claim check's own answer, and the record at the schedule's end where it is legal, else the blank one;
+// refusals 5 to 10.
+pub fn replay(mode: Mode, jobs: &[u32], horizon: u32, schedule: &[u16]) -> Replayed
+    ensures { λ r. ⌜ r ≡ replayAnswer (planter mode (now (jobs .entry))) horizon (now (schedule .entry)) ⌝ }
+{
+    zsrm::replay(mode, &TABLE, jobs, horizon, schedule)
+}
+
+// The verdict on a job from a record, such as a run or a replay returns; refusals 5 to 8, 11, 13.
 pub fn verdict(rec: Record, mode: Mode, jobs: &[u32], job: u32) -> Verdict
     ensures { λ r. ⌜ r ≡ verdictAnswer (planter mode (now (jobs .entry))) rec job ⌝ }
 {
     zsrm::verdict(rec, mode, &TABLE, jobs, job)
 }
 
-// Every job's verdict at once: what `verdict` answers for each job number below 64.
+// Every job's verdict at once: what `verdict` answers for each job number below 64; refusals 5 to 8, 11.
 pub fn verdicts(rec: Record, mode: Mode, jobs: &[u32]) -> Verdicts
     ensures { λ r. ⌜ r ≡ verdictsAnswer (planter mode (now (jobs .entry))) rec ⌝ }
 {

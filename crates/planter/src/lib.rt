@@ -1,15 +1,17 @@
 // Request Seven: the planter's fixed set of three tasks above the library. Callers give only mode, horizon and jobs; a day's admission says
-// what one more job would change. What is certain for down-force stands in proofs/Promise, that no job is ever late in proofs/NeverLate.
+// what one more job would change. What is certain for down-force stands in proofs/Promise, that no job is ever late in proofs/Promise/NeverLate.
 mod admission;
+mod answers;
 mod calls;
 mod tasks;
 
-pub use admission::Admission;
-pub use admission::Change;
 pub use admission::admit;
+pub use answers::Admission;
+pub use answers::Change;
 pub use calls::claim;
 pub use calls::fresh;
 pub use calls::go_on;
+pub use calls::replay;
 pub use calls::response;
 pub use calls::run;
 pub use calls::step;
@@ -27,6 +29,7 @@ pub use zsrm::Outcome;
 pub use zsrm::Place;
 pub use zsrm::Ran;
 pub use zsrm::Record;
+pub use zsrm::Replayed;
 pub use zsrm::Standing;
 pub use zsrm::Stepped;
 pub use zsrm::Verdict;

@@ -4,6 +4,6 @@ pub mod Reports
 pub mod Own
 pub mod Mean
 pub mod Extremes
-pub mod Text
+pub mod Lines
 pub mod Season
 pub mod Order

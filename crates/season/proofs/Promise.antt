@@ -2,7 +2,7 @@
 --
 -- `emptyAnswer tasks`, `addAnswer report g run`, `joinAnswer a b`, `meanOf row` and `extremesOf row` are the whole contracts of
 -- `Report::empty`, `add`, `join`, `mean` and `extremes`; `showing report` is what `show` writes. A report may hold anything, and so may
--- what it is joined with. `rowCount n` is min(n, 16): that many rows of a report of n tasks are looked at, and `rowAt r k` is row k.
+-- what it is joined with. `taskRows n` is min(n, 16): that many rows of a report of n tasks are looked at, and `rowAt r k` is row k.
 -- `joinRow` adds the counts and sums of two rows, in numbers of any size, and takes least and greatest among the sides with a finished job;
 -- `Held` says that no count and no sum of a row passes 4,294,967,295. `ownReport l run` is a run's own report, `ownRow l run k n` its row
 -- of task k over its first n jobs. `Season` says how a report was made by these calls: `begun`, a run `added`, two `merged`; `runsOf` are
@@ -22,42 +22,46 @@ use native.Mathlib.Omega.{arith}
 use lib.Dec.{ltb}
 use lib.ListN.{length}
 use borrow.Author.Tests.{le-ltb, lt-ltb, ltb-false, ltb-true}
-use Rattle.bits.proofs.Below.{getD-list}
-use Rattle.tables.specs.declared.outcome.Outcome.the-variants.{Done, Refused}
+use Rattle.bits.proofs.Laws.Below.{getD-list}
+use Rattle.bits.proofs.Laws.Bools.{apart}
+use Rattle.tables.specs.declared.answers.Outcome.the-variants.{Done, Refused}
 use Rattle.tables.specs.Refusals.{before, checkTasks}
 use Rattle.tables.specs.Said.{done, outcomeSaid, refused}
 use Rattle.tables.specs.Tables.{Lists, arrival, jobCount, taskCount}
 use Rattle.tables.proofs.Laws.Refusals.{before-first}
 use Rattle.tables.proofs.Laws.Said.{outcome-said}
+use Rattle.tables.proofs.Laws.Accepted.{accepted}
 use Rattle.zsrm.specs.declared.record.Record.{Record}
 use Rattle.zsrm.specs.declared.record.Standing.{Standing}
 use Rattle.zsrm.specs.declared.record.Standing.the-variants.{NotArrived, Unfinished, Finished, Ended}
 use Rattle.zsrm.specs.declared.tie.Tie.{Tie}
-use Rattle.zsrm.specs.Answers.{runAnswer}
+use Rattle.zsrm.specs.Answers.{checkVerdicts, runAnswer}
 use Rattle.zsrm.specs.Given.{Given}
 use Rattle.zsrm.specs.Said.{finishedAt, standingSaid}
-use Rattle.zsrm.proofs.Laws.Answers.{accepted, run-outcome}
-use Rattle.zsrm.proofs.Laws.Promises.{ran-consistent}
+use Rattle.zsrm.proofs.Laws.Answers.{run-outcome}
+use Rattle.zsrm.proofs.Laws.GoOn.{ran-consistent}
 use Rattle.zsrm.proofs.Laws.Said.{standing-said}
-use Rattle.zsrm.proofs.Readings.{apart}
-use Rattle.season.specs.declared.report.Report.{Report}
-use Rattle.season.specs.declared.report.Reported.{Reported}
-use Rattle.season.specs.declared.report.Row.{Row}
-use Rattle.season.specs.Extremes.{extremesOf, extremesSaid}
+use Rattle.season.specs.declared.answers.Report.{Report}
+use Rattle.season.specs.declared.answers.Reported.{Reported}
+use Rattle.season.specs.declared.answers.Row.{Row}
+use Rattle.season.specs.Extremes.{extremesOf}
+use Rattle.season.specs.Said.{extremesSaid, meanSaid}
 use Rattle.season.specs.Jobs.{Counted, Response, isFinished, responseOf}
-use Rattle.season.specs.Mean.{meanOf, meanSaid}
-use Rattle.season.specs.Own.{addAnswer, checkRun, ownReport, ownRow, ownUpTo}
-use Rattle.season.specs.Reports.{check18, emptyAnswer, emptyReport, joinAnswer, joined, reported, rowAt, rowCount}
-use Rattle.season.specs.Rows.{Held, joinRow, noJobs}
+use Rattle.season.specs.Mean.{meanOf}
+use Rattle.season.specs.Own.{ownReport, ownRow, ownUpTo}
+use Rattle.season.specs.Answers.{addAnswer, emptyAnswer, joinAnswer, reported}
+use Rattle.season.specs.Reports.{check18, emptyReport, joined, rowAt, taskRows}
+use Rattle.season.specs.Rows.{Held, joinRow, emptyRow}
 use Rattle.season.specs.Season.{Alike, Fitting, Run, Same, Season, addAll, andThen, begun, merged, reportOver, runsOf, seasonAnswer, totalRow}
 use Rattle.season.specs.Show.{showing}
-use Rattle.season.proofs.Laws.Order.{Neat, add-same, answer-done, answer-refused, empty-left, empty-neat, empty-right, join-or-not, join-regroups, join-same, join-swaps, joined-neat, lines-same}
+use Rattle.season.proofs.Laws.Order.{Neat, add-same, answer-done, answer-refused, empty-left, empty-neat}
+use Rattle.season.proofs.Laws.Order.{empty-right, join-or-not, join-regroups, join-same, join-swaps, joined-neat, lines-same}
 use Rattle.season.proofs.Laws.Own.{add-done, run-accepted}
 use Rattle.season.proofs.Laws.Reports.{Joins, joined-past, joined-row, joins, reported-done, reported-refused}
-use Rattle.season.proofs.Laws.Rows.{held, holds}
+use Rattle.season.proofs.Laws.Rows.{fits-held, held-fits}
 use Rattle.season.proofs.Laws.Season.{each-accepted, fitting-few, fitting-order, over-order, over-row, runs-added, season-fitting, season-made}
 use Rattle.season.proofs.Readings.{finished-since, total-counted, total-greatest, total-least, total-within}
-use Rattle.season.specs.declared.report.Extremes.the-variants as extremes
+use Rattle.season.specs.declared.answers.Extremes.the-variants as extremes
 
 -- ## The words
 
@@ -74,14 +78,14 @@ finished-exactly a (Ended e) = (λ q. apart (cc), λ w. let q = w .1 in apart (c
 -- They have the same number of tasks, and every row that they come to fits.
 pub record Together (a b : Report) : Type 0 where
   pub same-tasks : a .tasks ≡ b .tasks
-  pub fit : (k : ℕ) → k < rowCount (a .tasks) → Held (joinRow (rowAt a k) (rowAt b k))
+  pub fit : (k : ℕ) → k < taskRows (a .tasks) → Held (joinRow (rowAt a k) (rowAt b k))
 
 module _ (a b : Report) where
   together : Joins a b → Together a b
-  together w = record { same-tasks = w .same-tasks; fit = λ k l. held (joinRow (rowAt a k) (rowAt b k)) (w .fit k l) }
+  together w = record { same-tasks = w .same-tasks; fit = λ k l. fits-held (joinRow (rowAt a k) (rowAt b k)) (w .fit k l) }
 
   from-together : Together a b → Joins a b
-  from-together w = record { same-tasks = w .same-tasks; fit = λ k l. holds (joinRow (rowAt a k) (rowAt b k)) (w .fit k l) }
+  from-together w = record { same-tasks = w .same-tasks; fit = λ k l. held-fits (joinRow (rowAt a k) (rowAt b k)) (w .fit k l) }
 
   says : joinAnswer a b .outcome ≡ check18 a b
   unfolding joinAnswer reported
@@ -110,7 +114,7 @@ module _ (a b : Report) where
       go : Joins a b ⊎ (Joins a b → ⊥) → (number ≡ 18) × (place ≡ 0) × (joinAnswer a b .report ≡ a)
       go (inl w) =
           let e = sym s ∙ ap (λ (x : Reported). outcomeSaid (x .outcome)) (answer-done a b w) in
-          let z : _≡_ {A = ℕ} 0 1 = cc in absurd (omega arith)
+          apart (cc)
       go (inr no-join) =
           let e = answer-refused a b no-join in
           let q = sym s ∙ ap (λ (x : Reported). outcomeSaid (x .outcome)) e in
@@ -119,8 +123,8 @@ module _ (a b : Report) where
   -- Where it is done, every row that is looked at is joined, and every other one is 0.
   pub record Joined (r : Report) : Type 0 where
     pub tasks-kept : r .tasks ≡ a .tasks
-    pub rows-joined : (k : ℕ) → k < rowCount (a .tasks) → rowAt r k ≡ joinRow (rowAt a k) (rowAt b k)
-    pub rest-zero : (k : ℕ) → rowCount (a .tasks) ≤ k → k < 16 → rowAt r k ≡ noJobs
+    pub rows-joined : (k : ℕ) → k < taskRows (a .tasks) → rowAt r k ≡ joinRow (rowAt a k) (rowAt b k)
+    pub rest-zero : (k : ℕ) → taskRows (a .tasks) ≤ k → k < 16 → rowAt r k ≡ emptyRow
 
   pub join-joins : outcomeSaid (joinAnswer a b .outcome) ≡ done → Joined (joinAnswer a b .report)
   unfolding joined
@@ -151,25 +155,26 @@ show-looks a c v = lines-same a c v
 
 module _ (report : Report) (g : Given) (run : Record) where
   -- The run's own refusals, 2 to 8 and 11, go before 18.
-  pub add-checked : addAnswer report g run .outcome ≡ before (checkRun g run) (check18 report (ownReport (g .lists) run))
+  pub add-checked : addAnswer report g run .outcome ≡ before (checkVerdicts g run) (check18 report (ownReport (g .lists) run))
   unfolding addAnswer reported
   add-checked = refl
 
   -- A run that is accepted is added by joining its own report.
-  pub add-joins : outcomeSaid (checkRun g run) ≡ done → addAnswer report g run ≡ joinAnswer report (ownReport (g .lists) run)
+  pub add-joins : outcomeSaid (checkVerdicts g run) ≡ done → addAnswer report g run ≡ joinAnswer report (ownReport (g .lists) run)
   unfolding outcomeSaid
-  add-joins ok = sym (add-done g run report (joinAnswer report (ownReport (g .lists) run)) (outcome-said (checkRun g run) Done ok) refl)
+  add-joins ok = sym (add-done g run report (joinAnswer report (ownReport (g .lists) run)) (outcome-said (checkVerdicts g run) Done ok) refl)
 
   -- Where adding is refused, the report is as it was.
   pub add-refused-keeps : (number place : ℕ) → outcomeSaid (addAnswer report g run .outcome) ≡ refused number place → addAnswer report g run .report ≡ report
   unfolding outcomeSaid addAnswer
   add-refused-keeps number place s =
-      let o = before (checkRun g run) (check18 report (ownReport (g .lists) run)) in
-      ap (λ (x : Reported). x .report) (reported-refused report (joined report (ownReport (g .lists) run)) o number place (outcome-said o (Refused number place) (ap outcomeSaid (sym add-checked) ∙ s)))
+      let o = before (checkVerdicts g run) (check18 report (ownReport (g .lists) run)) in
+      ap (λ (x : Reported). x .report)
+      (reported-refused report (joined report (ownReport (g .lists) run)) o number place (outcome-said o (Refused number place) (ap outcomeSaid (sym add-checked) ∙ s)))
 
 -- The record that the library's run returns is accepted, in either tie choice.
 pub run-returns-accepted : (g : Given) (tie : Tie) (horizon : ℕ) (lent : List ℕ) → outcomeSaid (runAnswer g tie horizon lent .outcome) ≡ done
-    → outcomeSaid (checkRun g (runAnswer g tie horizon lent .«record»)) ≡ done
+    → outcomeSaid (checkVerdicts g (runAnswer g tie horizon lent .«record»)) ≡ done
 unfolding outcomeSaid
 run-returns-accepted g tie horizon lent says-done =
     let ok = sym (run-outcome g tie horizon lent) ∙ outcome-said (runAnswer g tie horizon lent .outcome) Done says-done in
@@ -178,7 +183,7 @@ run-returns-accepted g tie horizon lent says-done =
 -- A run's own report has the number of tasks of its table, and for each of its tasks the row over all its jobs.
 pub own-rows : (l : Lists) (run : Record) → (ownReport l run .tasks ≡ taskCount (l .tasks)) × ((k : ℕ) → k < 16 → rowAt (ownReport l run) k ≡ ownRow l run k (jobCount (l .jobs)))
 unfolding ownReport ownUpTo rowAt
-own-rows l run = (refl, λ k l₁. getD-list 16 (λ i. ownRow l run i (jobCount (l .jobs))) k noJobs l₁)
+own-rows l run = (refl, λ k l₁. getD-list 16 (λ i. ownRow l run i (jobCount (l .jobs))) k emptyRow l₁)
 
 -- ## The empty report
 
@@ -190,12 +195,14 @@ empty-checked tasks = refl
 pub empty-is : (tasks : List ℕ) → outcomeSaid (emptyAnswer tasks .outcome) ≡ done → emptyAnswer tasks .report ≡ emptyReport (taskCount tasks)
 unfolding emptyAnswer outcomeSaid
 empty-is tasks ok =
-    ap (λ (x : Reported). x .report) (reported-done (emptyReport 0) (emptyReport (taskCount tasks)) (checkTasks tasks) (outcome-said (checkTasks tasks) Done (ap outcomeSaid (sym (empty-checked tasks)) ∙ ok)))
+    ap (λ (x : Reported). x .report)
+    (reported-done (emptyReport 0) (emptyReport (taskCount tasks)) (checkTasks tasks) (outcome-said (checkTasks tasks) Done (ap outcomeSaid (sym (empty-checked tasks)) ∙ ok)))
 
 pub empty-refused : (tasks : List ℕ) (number place : ℕ) → outcomeSaid (emptyAnswer tasks .outcome) ≡ refused number place → emptyAnswer tasks .report ≡ emptyReport 0
 unfolding emptyAnswer outcomeSaid
 empty-refused tasks number place s =
-    ap (λ (x : Reported). x .report) (reported-refused (emptyReport 0) (emptyReport (taskCount tasks)) (checkTasks tasks) number place (outcome-said (checkTasks tasks) (Refused number place) (ap outcomeSaid (sym (empty-checked tasks)) ∙ s)))
+    ap (λ (x : Reported). x .report) (reported-refused (emptyReport 0) (emptyReport (taskCount tasks)) (checkTasks tasks)
+    number place (outcome-said (checkTasks tasks) (Refused number place) (ap outcomeSaid (sym (empty-checked tasks)) ∙ s)))
 
 -- A report that was made by these calls, from whatever reports.
 pub data Made : Report → Type 0 where
@@ -211,7 +218,7 @@ join-made-neat a b ok =
 add-made-neat : (report : Report) (g : Given) (run : Record) → outcomeSaid (addAnswer report g run .outcome) ≡ done → Neat (addAnswer report g run .report)
 unfolding outcomeSaid
 add-made-neat report g run ok =
-    let first = before-first (checkRun g run) _ (sym (add-checked report g run) ∙ outcome-said (addAnswer report g run .outcome) Done ok) in
+    let first = before-first (checkVerdicts g run) _ (sym (add-checked report g run) ∙ outcome-said (addAnswer report g run .outcome) Done ok) in
     let e = add-joins report g run (ap outcomeSaid first) in
     rw e (join-made-neat report (ownReport (g .lists) run) (ap (λ (x : Reported). outcomeSaid (x .outcome)) (sym e) ∙ ok))
 

@@ -10,13 +10,14 @@ use native.Mathlib.Nat.{not-suc-le-zero}
 use native.Mathlib.Omega.{arith}
 use lib.Dec.{eqb}
 use borrow.Author.Tests.{eq-eqb, eqb-true, ltb-true}
-use Rattle.bits.specs.Below.{count}
-use Rattle.bits.proofs.Below.{count-same, last-or-below}
-use Rattle.bits.proofs.Bools.{by-cond}
-use Rattle.tables.specs.declared.outcome.Outcome.the-variants.{Done}
+use Rattle.bits.specs.Below.{count, sumBelow}
+use Rattle.bits.proofs.Laws.Below.{count-same, last-or-below}
+use Rattle.bits.proofs.Laws.Bools.{by-cond, apart}
+use Rattle.tables.specs.declared.answers.Outcome.the-variants.{Done}
 use Rattle.tables.specs.Refusals.{checkLists}
 use Rattle.tables.specs.Tables.{Lists, arrival, jobCount, lists, taskOf}
 use Rattle.tables.proofs.Laws.Accepted.{lists-few}
+use Rattle.tables.proofs.Laws.Said.{said-done}
 use Rattle.zsrm.specs.declared.answers.Verdict.{Verdict}
 use Rattle.zsrm.specs.declared.record.Record.{Record}
 use Rattle.zsrm.specs.declared.record.Standing.{Standing}
@@ -25,17 +26,16 @@ use Rattle.zsrm.specs.Answers.{verdictAnswer}
 use Rattle.zsrm.specs.Record.{consistent, standingAt}
 use Rattle.zsrm.specs.Said.{standingSaid}
 use Rattle.zsrm.specs.Verdict.{isEnded, isLate, isMet, isOpen, verdict}
-use Rattle.zsrm.proofs.Laws.Answers.{verdict-answered}
+use Rattle.zsrm.proofs.Laws.Verdicts.{verdict-answered}
 use Rattle.zsrm.proofs.Laws.Consistent.{sound-at}
 use Rattle.zsrm.proofs.Laws.Said.{standing-said}
-use Rattle.season.specs.declared.report.Row.{Row}
-use Rattle.season.specs.Jobs.{Counted, Response, isFinished, isOfTask, responseOf, sumBelow, sumOver}
+use Rattle.season.specs.declared.answers.Row.{Row}
+use Rattle.season.specs.Jobs.{Counted, Response, isFinished, isOfTask, responseOf, sumOver}
 use Rattle.season.specs.Own.{jobRow, jobRowAt, judgedRow, ownRow, withResponse}
-use Rattle.season.specs.Rows.{joinRow, noJobs, someFinished}
-use Rattle.season.specs.Season.{Accepted, AllAccepted, Run, givenOf, rowIn, totalRow}
-use Rattle.season.proofs.Laws.Own.{run-consistent, run-lists}
+use Rattle.season.specs.Rows.{joinRow, emptyRow, someFinished}
+use Rattle.season.specs.Season.{Accepted, AllAccepted, Run, runGiven, rowIn, totalRow}
+use Rattle.season.proofs.Laws.Own.{checked-run-consistent, run-lists}
 use Rattle.season.proofs.Laws.Rows.{Reach, greatest-taken, least-taken, reach-left, reach-right}
-use Rattle.season.proofs.Laws.Season.{told-done}
 use Rattle.zsrm.specs.declared.answers.Verdict.the-variants as verdicts
 
 -- ## One job
@@ -74,7 +74,7 @@ module _ (l : Lists) (r : Record) (k : ℕ) where
   ofTask j = eqb (taskOf (l .jobs) j) k
 
   -- a number that joining adds, and that a job has once or not at all
-  counts : (field : Row → ℕ) (test : ℕ → Bool) → field noJobs ≡ 0 → ((a b : Row) → field (joinRow a b) ≡ field a + field b) → ((j : ℕ) → field (jobRowAt l r j) ≡ cond (test j) 1 0)
+  counts : (field : Row → ℕ) (test : ℕ → Bool) → field emptyRow ≡ 0 → ((a b : Row) → field (joinRow a b) ≡ field a + field b) → ((j : ℕ) → field (jobRowAt l r j) ≡ cond (test j) 1 0)
       → (n : ℕ) → field (ownRow l r k n) ≡ count n (λ j. ofTask j && test j)
   unfolding ownRow count
   counts field test none add each zero = none
@@ -157,7 +157,8 @@ module _ (l : Lists) (r : Record) (k : ℕ) where
   later n v w = record { job = w .job; instant = w .instant; listed = omega (arith, w .listed); its-task = w .its-task; its-standing = w .its-standing; is = w .is }
 
   -- the one job has finished
-  lone : (j : ℕ) → someFinished (jobRowAt l r j) ≡ true → (f : ℕ) × (standingAt r j ≡ Finished f) × (jobRowAt l r j .least ≡ f - arrival (l .jobs) j) × (jobRowAt l r j .greatest ≡ f - arrival (l .jobs) j)
+  lone : (j : ℕ) → someFinished (jobRowAt l r j) ≡ true → (f : ℕ) × (standingAt r j ≡ Finished f)
+      × (jobRowAt l r j .least ≡ f - arrival (l .jobs) j) × (jobRowAt l r j .greatest ≡ f - arrival (l .jobs) j)
   unfolding jobRowAt jobRow
   lone j h = go (standingAt r j) refl h
     where
@@ -168,7 +169,8 @@ module _ (l : Lists) (r : Record) (k : ℕ) where
       never h = absurd (omega (arith, ltb-true 0 (x .finished) h, nothing (verdict l r j) .0))
 
       go : (s : Standing) → standingAt r j ≡ s → someFinished (withResponse x (arrival (l .jobs) j) s) ≡ true
-          → (f : ℕ) × (standingAt r j ≡ Finished f) × (withResponse x (arrival (l .jobs) j) s .least ≡ f - arrival (l .jobs) j) × (withResponse x (arrival (l .jobs) j) s .greatest ≡ f - arrival (l .jobs) j)
+          → (f : ℕ) × (standingAt r j ≡ Finished f) × (withResponse x (arrival (l .jobs) j) s .least ≡ f - arrival (l .jobs) j)
+          × (withResponse x (arrival (l .jobs) j) s .greatest ≡ f - arrival (l .jobs) j)
       go NotArrived e h = never h
       go Unfinished e h = never h
       go (Finished f) e h = (f, e, refl, refl)
@@ -179,7 +181,7 @@ module _ (l : Lists) (r : Record) (k : ℕ) where
       → ((j : ℕ) → someFinished (jobRowAt l r j) ≡ true → (f : ℕ) × (standingAt r j ≡ Finished f) × (field (jobRowAt l r j) ≡ f - arrival (l .jobs) j))
       → (n : ℕ) → someFinished (ownRow l r k n) ≡ true → OwnResponse n (field (ownRow l r k n))
   unfolding ownRow
-  attained field found own zero h = let z : _≡_ {A = ℕ} 0 1 = cc in absurd (omega arith)
+  attained field found own zero h = apart (cc)
   attained field found own (suc n) h = go (ofTask n) refl (attained field found own n) h
     where
       last : taskOf (l .jobs) n ≡ k → someFinished (jobRowAt l r n) ≡ true → (v : ℕ) → v ≡ field (jobRowAt l r n) → OwnResponse (suc n) v
@@ -197,40 +199,40 @@ module _ (l : Lists) (r : Record) (k : ℕ) where
           pick (inl w) = rw (w .1) (later n _ (ih (w .0)))
           pick (inr w) = last (eqb-true (taskOf (l .jobs) n) k e) (w .0) _ (w .1)
 
-  pub least-is : (n : ℕ) → someFinished (ownRow l r k n) ≡ true → OwnResponse n (ownRow l r k n .least)
-  least-is = attained (λ x. x .least) least-taken (λ j h. let w = lone j h in (w .0, w .1, w .2))
+  pub least-response : (n : ℕ) → someFinished (ownRow l r k n) ≡ true → OwnResponse n (ownRow l r k n .least)
+  least-response = attained (λ x. x .least) least-taken (λ j h. let w = lone j h in (w .0, w .1, w .2))
 
-  pub greatest-is : (n : ℕ) → someFinished (ownRow l r k n) ≡ true → OwnResponse n (ownRow l r k n .greatest)
-  greatest-is = attained (λ x. x .greatest) greatest-taken (λ j h. let w = lone j h in (w .0, w .1, w .3))
+  pub greatest-response : (n : ℕ) → someFinished (ownRow l r k n) ≡ true → OwnResponse n (ownRow l r k n .greatest)
+  greatest-response = attained (λ x. x .greatest) greatest-taken (λ j h. let w = lone j h in (w .0, w .1, w .3))
 
 -- ## A run that is accepted
 
 module _ (tasks : List ℕ) (run : Run) (ok : Accepted tasks run) where
   its-lists : checkLists (lists tasks (run .jobs)) ≡ Done
-  its-lists = run-lists (givenOf tasks run) (run .returned) (told-done _ .0 ok)
+  its-lists = run-lists (runGiven tasks run) (run .returned) (said-done _ .0 ok)
 
-  its-record : consistent (givenOf tasks run) (run .returned) ≡ true
-  its-record = run-consistent (givenOf tasks run) (run .returned) (told-done _ .0 ok)
+  its-record : consistent (runGiven tasks run) (run .returned) ≡ true
+  its-record = checked-run-consistent (runGiven tasks run) (run .returned) (said-done _ .0 ok)
 
   -- the library answers the verdicts by which it is counted
   as-answered : (k : ℕ) (so : Verdict → Bool)
       → count (jobCount (run .jobs)) (λ j. isOfTask k run j && so (verdict (lists tasks (run .jobs)) (run .returned) j))
-      ≡ count (jobCount (run .jobs)) (λ j. isOfTask k run j && so (verdictAnswer (givenOf tasks run) (run .returned) j))
+      ≡ count (jobCount (run .jobs)) (λ j. isOfTask k run j && so (verdictAnswer (runGiven tasks run) (run .returned) j))
   as-answered k so =
       count-same _ _ (jobCount (run .jobs))
-      (λ j b. ap (λ (v : Verdict). isOfTask k run j && so v) (sym (verdict-answered (givenOf tasks run) its-lists (run .returned) its-record j b)))
+      (λ j b. ap (λ (v : Verdict). isOfTask k run j && so v) (sym (verdict-answered (runGiven tasks run) its-lists (run .returned) its-record j b)))
 
   -- no job finishes before its arrival
   pub finished-since : (j f : ℕ) → j < jobCount (run .jobs) → standingAt (run .returned) j ≡ Finished f → arrival (run .jobs) j ≤ f
   finished-since j f b q =
-      let complete = rw q at (sound-at (givenOf tasks run) (run .returned) its-record j (omega (arith, b, lists-few (lists tasks (run .jobs)) its-lists))) in
+      let complete = rw q at (sound-at (runGiven tasks run) (run .returned) its-record j (omega (arith, b, lists-few (lists tasks (run .jobs)) its-lists))) in
       omega (arith, complete .after)
 
 -- ## The jobs of task k, in all runs
 
 module _ (tasks : List ℕ) (k : ℕ) where
   -- a number that joining adds
-  sums : (field : Row → ℕ) (f : Run → ℕ) → field noJobs ≡ 0 → ((a b : Row) → field (joinRow a b) ≡ field a + field b)
+  sums : (field : Row → ℕ) (f : Run → ℕ) → field emptyRow ≡ 0 → ((a b : Row) → field (joinRow a b) ≡ field a + field b)
       → ((run : Run) → Accepted tasks run → field (rowIn tasks k run) ≡ f run)
       → (runs : List Run) → AllAccepted tasks runs → field (totalRow tasks k runs) ≡ sumOver f runs
   unfolding totalRow sumOver
@@ -269,7 +271,7 @@ module _ (tasks : List ℕ) (k : ℕ) where
       → ((run : Run) → someFinished (rowIn tasks k run) ≡ true → OwnResponse (lists tasks (run .jobs)) (run .returned) k (jobCount (run .jobs)) (field (rowIn tasks k run)))
       → (runs : List Run) → someFinished (totalRow tasks k runs) ≡ true → Response k runs (field (totalRow tasks k runs))
   unfolding totalRow standingSaid
-  total-attained field found own [] h = let z : _≡_ {A = ℕ} 0 1 = cc in absurd (omega arith)
+  total-attained field found own [] h = apart (cc)
   total-attained field found own (run ∷ runs) h = go (found (rowIn tasks k run) (totalRow tasks k runs) h) (total-attained field found own runs)
     where
       whole : ℕ
@@ -303,7 +305,7 @@ module _ (tasks : List ℕ) (k : ℕ) where
           }
 
   pub total-least : (runs : List Run) → someFinished (totalRow tasks k runs) ≡ true → Response k runs (totalRow tasks k runs .least)
-  total-least = total-attained (λ x. x .least) least-taken (λ run. least-is (lists tasks (run .jobs)) (run .returned) k (jobCount (run .jobs)))
+  total-least = total-attained (λ x. x .least) least-taken (λ run. least-response (lists tasks (run .jobs)) (run .returned) k (jobCount (run .jobs)))
 
   pub total-greatest : (runs : List Run) → someFinished (totalRow tasks k runs) ≡ true → Response k runs (totalRow tasks k runs .greatest)
-  total-greatest = total-attained (λ x. x .greatest) greatest-taken (λ run. greatest-is (lists tasks (run .jobs)) (run .returned) k (jobCount (run .jobs)))
+  total-greatest = total-attained (λ x. x .greatest) greatest-taken (λ run. greatest-response (lists tasks (run .jobs)) (run .returned) k (jobCount (run .jobs)))

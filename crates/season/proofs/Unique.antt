@@ -5,10 +5,10 @@ use contract.Lifetimes.{Lfts}
 use denote.Ref.{now}
 use Rattle.season.proofs.means.extremes.Reads as extremes
 use Rattle.season.proofs.means.mean.Reads as mean
-use Rattle.season.proofs.report.Report.add.Reads as add
-use Rattle.season.proofs.report.Report.empty.Reads as empty
-use Rattle.season.proofs.report.Report.join.Reads as join
-use Rattle.season.proofs.text.show.Reads as show
+use Rattle.season.proofs.answers.Report.add.Reads as add
+use Rattle.season.proofs.answers.Report.empty.Reads as empty
+use Rattle.season.proofs.answers.Report.join.Reads as join
+use Rattle.season.proofs.lines.show.Reads as show
 
 pub empty-one : (κs : Lfts 1) (a : _) (r s : _) (e f : _) → empty.Learnt κs a r e → empty.Learnt κs a s f → r ≡ s
 empty-one κs a r s e f p q = p ∙ sym q

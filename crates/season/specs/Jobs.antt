@@ -1,11 +1,11 @@
 -- Document 02, Ten, read over jobs: which of them are met, late, ended, open and finished, and what their responses are; and over all jobs of
 -- a task in all runs, what the numbers of its row come to.
-use Prim.Native.Nat.{ℕ, zero, suc, _+_, _-_, _<_}
+use Prim.Native.Nat.{ℕ, _+_, _-_, _<_}
 use mathlib.Core.Bool.{Bool, cond, false, true, _&&_}
 use mathlib.Core.List.{List, [], _∷_, List·Memᴰ}
 use mathlib.Core.Path.{_≡_}
 use lib.Dec.{eqb}
-use Rattle.bits.specs.Below.{count}
+use Rattle.bits.specs.Below.{count, sumBelow}
 use Rattle.tables.specs.Tables.{arrival, jobCount, taskOf}
 use Rattle.zsrm.specs.declared.answers.Verdict.{Verdict}
 use Rattle.zsrm.specs.declared.record.Standing.{Standing}
@@ -14,8 +14,8 @@ use Rattle.zsrm.specs.Answers.{verdictAnswer}
 use Rattle.zsrm.specs.Record.{standingAt}
 use Rattle.zsrm.specs.Said.{finishedAt, standingSaid}
 use Rattle.zsrm.specs.Verdict.{isEnded, isLate, isMet, isOpen}
-use Rattle.season.specs.declared.report.Row.{Row}
-use Rattle.season.specs.Season.{Run, givenOf}
+use Rattle.season.specs.declared.answers.Row.{Row}
+use Rattle.season.specs.Season.{Run, runGiven}
 
 -- The job has finished.
 abbrev pub isFinished : Standing → Bool
@@ -30,11 +30,6 @@ responseOf arrival NotArrived = 0
 responseOf arrival Unfinished = 0
 responseOf arrival (Finished f) = f - arrival
 responseOf arrival (Ended e) = 0
-
--- f 0 + f 1 + .., of n values
-unfoldable pub sumBelow : ℕ → (ℕ → ℕ) → ℕ
-sumBelow zero f = 0
-sumBelow (suc n) f = f n + sumBelow n f
 
 -- a number of each run, summed over the runs
 unfoldable pub sumOver : (Run → ℕ) → List Run → ℕ
@@ -73,7 +68,7 @@ module _ (k : ℕ) where
 module _ (tasks : List ℕ) (k : ℕ) where
   -- how many jobs of task k, in all runs, the library judges so
   abbrev pub judgedOver : (Verdict → Bool) → List Run → ℕ
-  judgedOver so = jobsOver k (λ run j. so (verdictAnswer (givenOf tasks run) (run .returned) j))
+  judgedOver so = jobsOver k (λ run j. so (verdictAnswer (runGiven tasks run) (run .returned) j))
 
   -- The counts and the sum of a row are those of all jobs of task k in all runs.
   pub record Counted (runs : List Run) (row : Row) : Type 0 where

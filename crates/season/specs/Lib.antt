@@ -1,8 +1,10 @@
 pub mod Rows
 pub mod Reports
 pub mod Own
+pub mod Answers
 pub mod Mean
 pub mod Extremes
+pub mod Said
 pub mod Show
 pub mod Season
 pub mod Jobs

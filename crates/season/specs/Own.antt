@@ -1,37 +1,32 @@
--- Document 02, Ten: a run's own report, and adding it to another. Jobs are judged by the library, from the run's record.
+-- Document 02, Ten: a run's own report. Jobs are judged by the library, from the run's record.
 use Prim.Native.Nat.{ℕ, zero, suc, _-_}
 use mathlib.Core.Bool.{cond}
 use lib.Dec.{eqb}
 use Rattle.bits.specs.Below.{listFrom}
-use Rattle.tables.specs.declared.outcome.Outcome.{Outcome}
-use Rattle.tables.specs.Refusals.{before, checkLists}
 use Rattle.tables.specs.Tables.{Lists, arrival, jobCount, taskCount, taskOf}
 use Rattle.zsrm.specs.declared.answers.Verdict.{Verdict}
 use Rattle.zsrm.specs.declared.record.Record.{Record}
 use Rattle.zsrm.specs.declared.record.Standing.{Standing}
 use Rattle.zsrm.specs.declared.record.Standing.the-variants.{NotArrived, Unfinished, Finished, Ended}
-use Rattle.zsrm.specs.Given.{Given}
-use Rattle.zsrm.specs.Record.{check11, consistent, standingAt}
+use Rattle.zsrm.specs.Record.{standingAt}
 use Rattle.zsrm.specs.Verdict.{verdict}
-use Rattle.season.specs.declared.report.Report.{Report}
-use Rattle.season.specs.declared.report.Reported.{Reported}
-use Rattle.season.specs.declared.report.Row.{Row}
-use Rattle.season.specs.Reports.{check18, joined, reported}
-use Rattle.season.specs.Rows.{joinRow, noJobs}
+use Rattle.season.specs.declared.answers.Report.{Report}
+use Rattle.season.specs.declared.answers.Row.{Row}
+use Rattle.season.specs.Rows.{joinRow, emptyRow}
 use Rattle.zsrm.specs.declared.answers.Verdict.the-variants as verdicts
 
 -- counts, and no finished job
-abbrev pub counted : ℕ → ℕ → ℕ → ℕ → Row
-counted met late ended opened =
+abbrev pub countRow : ℕ → ℕ → ℕ → ℕ → Row
+countRow met late ended opened =
     record { met = met; late = late; ended = ended; «open» = opened; finished = 0; sum = 0; least = 0; greatest = 0 }
 
 -- One job, met, late, ended or open; the verdict on a job of the list is no refusal.
 abbrev pub judgedRow : Verdict → Row
-judgedRow (verdicts.Refused number place) = noJobs
-judgedRow verdicts.Met = counted 1 0 0 0
-judgedRow (verdicts.Late by isExact) = counted 0 1 0 0
-judgedRow verdicts.Ended = counted 0 0 1 0
-judgedRow verdicts.Open = counted 0 0 0 1
+judgedRow (verdicts.Refused number place) = emptyRow
+judgedRow verdicts.Met = countRow 1 0 0 0
+judgedRow (verdicts.Late by isExact) = countRow 0 1 0 0
+judgedRow verdicts.Ended = countRow 0 0 1 0
+judgedRow verdicts.Open = countRow 0 0 0 1
 
 -- A finished job has a response, finishing instant minus arrival; a late job that is alive has none.
 abbrev pub withResponse : Row → ℕ → Standing → Row
@@ -60,7 +55,7 @@ module _ (l : Lists) (r : Record) where
 
   -- the row of task k over the first n jobs
   unfoldable pub ownRow : ℕ → ℕ → Row
-  ownRow k zero = noJobs
+  ownRow k zero = emptyRow
   ownRow k (suc n) = cond (eqb (taskOf (l .jobs) n) k) (joinRow (ownRow k n) (jobRowAt n)) (ownRow k n)
 
   -- the report over the first n jobs
@@ -70,12 +65,3 @@ module _ (l : Lists) (r : Record) where
   -- and over all
   unfoldable pub ownReport : Report
   ownReport = ownUpTo (jobCount (l .jobs))
-
--- A run is refused with 2 to 8 and 11, and 18 is last in order.
-unfoldable pub checkRun : Given → Record → Outcome
-checkRun g run = before (checkLists (g .lists)) (check11 (consistent g run))
-
--- Adding a run is joining its own report.
-unfoldable pub addAnswer : Report → Given → Record → Reported
-addAnswer report g run =
-    reported (before (checkRun g run) (check18 report (ownReport (g .lists) run))) report (joined report (ownReport (g .lists) run))

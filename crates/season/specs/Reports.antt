@@ -6,24 +6,22 @@ use mathlib.Core.List.{List}
 use lib.Dec.{eqb, ltb}
 use lib.ListN.{getD, replicate}
 use Rattle.bits.specs.Below.{every, listFrom}
-use Rattle.tables.specs.declared.outcome.Outcome.{Outcome}
-use Rattle.tables.specs.Refusals.{checkTasks, refuse, unless}
-use Rattle.tables.specs.Tables.{taskCount}
-use Rattle.season.specs.declared.report.Report.{Report}
-use Rattle.season.specs.declared.report.Reported.{Reported}
-use Rattle.season.specs.declared.report.Row.{Row}
-use Rattle.season.specs.Rows.{fits, joinRow, noJobs}
+use Rattle.tables.specs.declared.answers.Outcome.{Outcome}
+use Rattle.tables.specs.Refusals.{refuse}
+use Rattle.season.specs.declared.answers.Report.{Report}
+use Rattle.season.specs.declared.answers.Row.{Row}
+use Rattle.season.specs.Rows.{fits, joinRow, emptyRow}
 
 -- how many rows of a report of so many tasks are looked at
-abbrev pub rowCount : ℕ → ℕ
-rowCount tasks = min tasks 16
+abbrev pub taskRows : ℕ → ℕ
+taskRows tasks = min tasks 16
 
 unfoldable pub rowAt : Report → ℕ → Row
-rowAt r k = getD (r .rows) k noJobs
+rowAt r k = getD (r .rows) k emptyRow
 
 -- row k: as said below n, else 0
 unfoldable pub rowBelow : ℕ → (ℕ → Row) → ℕ → Row
-rowBelow n f k = cond (ltb k n) (f k) noJobs
+rowBelow n f k = cond (ltb k n) (f k) emptyRow
 
 -- sixteen such rows
 unfoldable pub rowsOf : ℕ → (ℕ → Row) → List Row
@@ -34,26 +32,15 @@ joinedRow a b k = joinRow (rowAt a k) (rowAt b k)
 
 -- The two reports' rows joined, task by task.
 unfoldable pub joined : Report → Report → Report
-joined a b = record { tasks = a .tasks; rows = rowsOf (rowCount (a .tasks)) (joinedRow a b) }
+joined a b = record { tasks = a .tasks; rows = rowsOf (taskRows (a .tasks)) (joinedRow a b) }
 
 unfoldable pub allFit : Report → Report → Bool
-allFit a b = every (rowCount (a .tasks)) (λ k. fits (joinedRow a b k))
+allFit a b = every (taskRows (a .tasks)) (λ k. fits (joinedRow a b k))
 
 -- 18: a sum or count would pass 4,294,967,295, or the report to be added has another number of tasks
 unfoldable pub check18 : Report → Report → Outcome
 check18 a b = refuse (not (eqb (a .tasks) (b .tasks)) || not (allFit a b)) 18 0
 
--- A refused call hands back the report as it was.
-unfoldable pub reported : Outcome → Report → Report → Reported
-reported outcome was made = record { outcome = outcome; report = unless outcome (λ number place. was) made }
-
-unfoldable pub joinAnswer : Report → Report → Reported
-joinAnswer a b = reported (check18 a b) a (joined a b)
-
 -- The report of no runs.
 unfoldable pub emptyReport : ℕ → Report
-emptyReport tasks = record { tasks = tasks; rows = replicate 16 noJobs }
-
--- Where the table is refused, there was no report: it is all 0.
-unfoldable pub emptyAnswer : List ℕ → Reported
-emptyAnswer tasks = reported (checkTasks tasks) (emptyReport 0) (emptyReport (taskCount tasks))
+emptyReport tasks = record { tasks = tasks; rows = replicate 16 emptyRow }

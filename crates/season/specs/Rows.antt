@@ -3,11 +3,11 @@
 use Prim.Native.Nat.{ℕ, _+_, _≤_, max, min}
 use mathlib.Core.Bool.{Bool, true, false, _&&_}
 use lib.Dec.{leb, ltb}
-use Rattle.season.specs.declared.report.Row.{Row}
+use Rattle.season.specs.declared.answers.Row.{Row}
 
 -- the row of a task without jobs
-abbrev pub noJobs : Row
-noJobs = record { met = 0; late = 0; ended = 0; «open» = 0; finished = 0; sum = 0; least = 0; greatest = 0 }
+abbrev pub emptyRow : Row
+emptyRow = record { met = 0; late = 0; ended = 0; «open» = 0; finished = 0; sum = 0; least = 0; greatest = 0 }
 
 -- some job of the row has finished
 abbrev pub someFinished : Row → Bool

@@ -8,13 +8,15 @@ use Rattle.tables.specs.Said.{done, outcomeSaid}
 use Rattle.tables.specs.Tables.{jobCount, lists, taskCount}
 use Rattle.zsrm.specs.declared.mode.Mode.{Mode}
 use Rattle.zsrm.specs.declared.record.Record.{Record}
+use Rattle.zsrm.specs.Answers.{checkVerdicts}
 use Rattle.zsrm.specs.Given.{Given, given}
-use Rattle.season.specs.declared.report.Report.{Report}
-use Rattle.season.specs.declared.report.Reported.{Reported}
-use Rattle.season.specs.declared.report.Row.{Row}
-use Rattle.season.specs.Own.{addAnswer, checkRun, ownRow}
-use Rattle.season.specs.Reports.{emptyAnswer, joinAnswer, rowAt, rowCount, rowsOf}
-use Rattle.season.specs.Rows.{fits, joinRow, noJobs}
+use Rattle.season.specs.declared.answers.Report.{Report}
+use Rattle.season.specs.declared.answers.Reported.{Reported}
+use Rattle.season.specs.declared.answers.Row.{Row}
+use Rattle.season.specs.Own.{ownRow}
+use Rattle.season.specs.Answers.{addAnswer, emptyAnswer, joinAnswer}
+use Rattle.season.specs.Reports.{rowAt, taskRows, rowsOf}
+use Rattle.season.specs.Rows.{fits, joinRow, emptyRow}
 
 -- A finished run: its mode, its jobs, and the record that it returned.
 pub record Run : Type 0 where
@@ -49,16 +51,17 @@ Alike x y = (x .outcome ≡ y .outcome) × (outcomeSaid (x .outcome) ≡ done �
 -- The same number of tasks, and the same rows of them: all that is looked at.
 pub record Same (a c : Report) : Type 0 where
   pub tasks-are : a .tasks ≡ c .tasks
-  pub rows-are : (k : ℕ) → k < rowCount (a .tasks) → rowAt a k ≡ rowAt c k
+  pub rows-are : (k : ℕ) → k < taskRows (a .tasks) → rowAt a k ≡ rowAt c k
 
 module _ (tasks : List ℕ) where
-  abbrev pub givenOf : Run → Given
-  givenOf run = given (run .mode) tasks (run .jobs)
+  -- what a run was made from: its mode, the one table, its jobs
+  abbrev pub runGiven : Run → Given
+  runGiven run = given (run .mode) tasks (run .jobs)
 
   -- what the last of the calls answers
   unfoldable pub seasonAnswer : Season → Reported
   seasonAnswer begun = emptyAnswer tasks
-  seasonAnswer (added s run) = andThen (seasonAnswer s) (λ report. addAnswer report (givenOf run) (run .returned))
+  seasonAnswer (added s run) = andThen (seasonAnswer s) (λ report. addAnswer report (runGiven run) (run .returned))
   seasonAnswer (merged s t) = andThen (seasonAnswer s) (λ a. andThen (seasonAnswer t) (λ b. joinAnswer a b))
 
   -- a run's own row of task k, and that of all runs
@@ -66,7 +69,7 @@ module _ (tasks : List ℕ) where
   rowIn k run = ownRow (lists tasks (run .jobs)) (run .returned) k (jobCount (run .jobs))
 
   unfoldable pub totalRow : ℕ → List Run → Row
-  totalRow k [] = noJobs
+  totalRow k [] = emptyRow
   totalRow k (run ∷ runs) = joinRow (rowIn k run) (totalRow k runs)
 
   -- One report over all runs.
@@ -75,7 +78,7 @@ module _ (tasks : List ℕ) where
 
   -- The run is accepted: 2 to 8 and 11.
   abbrev pub Accepted : Run → Type 0
-  Accepted run = outcomeSaid (checkRun (givenOf run) (run .returned)) ≡ done
+  Accepted run = outcomeSaid (checkVerdicts (runGiven run) (run .returned)) ≡ done
 
   abbrev pub AllAccepted : List Run → Type 0
   AllAccepted [] = Unit {0}

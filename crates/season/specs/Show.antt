@@ -2,22 +2,17 @@
 -- `task K MET LATE ENDED OPEN LEAST GREATEST QUOTIENT REMAINDER COUNT`. The bytes: space is 32, newline 10, `-` 45.
 use Prim.Native.Nat.{ℕ, zero, suc}
 use mathlib.Core.List.{List, [], _∷_, _++_}
-use Rattle.decimal.specs.Decimal.{decimal}
-use Rattle.season.specs.declared.report.Mean.{Mean}
-use Rattle.season.specs.declared.report.Mean.the-variants.{None, Of}
-use Rattle.season.specs.declared.report.Report.{Report}
-use Rattle.season.specs.declared.report.Row.{Row}
+use Rattle.text.specs.Decimal.{decimal, spaced}
+use Rattle.season.specs.declared.answers.Mean.{Mean}
+use Rattle.season.specs.declared.answers.Mean.the-variants.{None, Of}
+use Rattle.season.specs.declared.answers.Report.{Report}
+use Rattle.season.specs.declared.answers.Row.{Row}
 use Rattle.season.specs.Mean.{meanOf}
-use Rattle.season.specs.Reports.{rowAt, rowCount}
-
--- words, a space before each
-unfoldable pub spaced : List (List ℕ) → List ℕ
-spaced [] = []
-spaced (w ∷ ws) = 32 ∷ (w ++ spaced ws)
+use Rattle.season.specs.Reports.{rowAt, taskRows}
 
 -- `task`
-abbrev pub task : List ℕ
-task = 116 ∷ 97 ∷ 115 ∷ 107 ∷ []
+abbrev pub taskWord : List ℕ
+taskWord = 116 ∷ 97 ∷ 115 ∷ 107 ∷ []
 
 abbrev pub dash : List ℕ
 dash = 45 ∷ []
@@ -34,7 +29,7 @@ responses least greatest (Of quotient remainder count) =
 
 -- The line of task k.
 unfoldable pub rowLine : ℕ → Row → List ℕ
-rowLine k r = task ++ (spaced (decimal k ∷ (counts r ++ responses (r .least) (r .greatest) (meanOf r))) ++ (10 ∷ []))
+rowLine k r = taskWord ++ (spaced (decimal k ∷ (counts r ++ responses (r .least) (r .greatest) (meanOf r))) ++ (10 ∷ []))
 
 -- the lines of the first n tasks
 unfoldable pub rowLines : Report → ℕ → List ℕ
@@ -43,4 +38,4 @@ rowLines r (suc n) = rowLines r n ++ rowLine n (rowAt r n)
 
 -- What is shown of a report.
 unfoldable pub showing : Report → List ℕ
-showing r = rowLines r (rowCount (r .tasks))
+showing r = rowLines r (taskRows (r .tasks))

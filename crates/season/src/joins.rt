@@ -1,20 +1,20 @@
 // Two reports joined row by row, where all of it fits; the empty report; and what a refused call hands back.
 ghost use mathlib.Core.Path.{_≡_};
 ghost use Prim.Native.Nat.{ℕ, _<_};
-ghost use Rattle.tables.specs.declared.outcome.Outcome.{Outcome};
-ghost use Rattle.season.specs.Code.{Room};
-ghost use Rattle.season.specs.Reports.{allFit, check18, emptyReport, joined, rowAt, rowCount};
-use crate::report::Report;
-use crate::report::Reported;
+ghost use Rattle.tables.specs.declared.answers.Outcome.{Outcome};
+ghost use Rattle.season.specs.Code.{Joinable};
+ghost use Rattle.season.specs.Reports.{allFit, check18, emptyReport, joined, rowAt, taskRows};
+use crate::answers::Report;
+use crate::answers::Reported;
+use crate::rows::empty_row;
 use crate::rows::join_rows;
-use crate::rows::no_jobs;
 use crate::rows::rows_fit;
 use tables::refuse;
 use zsrm::Outcome;
 
 // How many rows of a report of so many tasks are looked at: at most 16.
-pub(crate) fn row_count(tasks: u32) -> usize
-    ensures { λ r. ⌜ r ≡ rowCount tasks ⌝ }
+pub(crate) fn task_rows(tasks: u32) -> usize
+    ensures { λ r. ⌜ r ≡ taskRows tasks ⌝ }
 {
     if tasks < 16 { tasks as usize } else { 16 }
 }
@@ -23,7 +23,7 @@ pub(crate) fn row_count(tasks: u32) -> usize
 pub(crate) fn empty_report(tasks: u32) -> Report
     ensures { λ r. ⌜ r ≡ emptyReport tasks ⌝ }
 {
-    let row = no_jobs();
+    let row = empty_row();
     Report {
         tasks,
         rows: [row; 16],
@@ -34,7 +34,7 @@ pub(crate) fn empty_report(tasks: u32) -> Report
 fn all_fit(a: Report, b: Report) -> bool
     ensures { λ r. ⌜ r ≡ allFit a b ⌝ }
 {
-    let n = row_count(a.tasks);
+    let n = task_rows(a.tasks);
     let mut all = true;
     let mut k: usize = 0;
     while k < n {
@@ -57,10 +57,10 @@ pub(crate) fn check18(a: Report, b: Report) -> Outcome
 
 // The joined report, where it fits; the rows that were not looked at are 0.
 pub(crate) fn join_reports(a: Report, b: Report) -> Report
-    requires { ⌜ ((k : ℕ) → k < rowCount (a .tasks) → Room (rowAt a k) (rowAt b k)) ⌝ }
+    requires { ⌜ ((k : ℕ) → k < taskRows (a .tasks) → Joinable (rowAt a k) (rowAt b k)) ⌝ }
     ensures { λ r. ⌜ r ≡ joined a b ⌝ }
 {
-    let n = row_count(a.tasks);
+    let n = task_rows(a.tasks);
     let mut out = empty_report(a.tasks);
     let mut k: usize = 0;
     while k < n {
@@ -73,7 +73,7 @@ pub(crate) fn join_reports(a: Report, b: Report) -> Report
 }
 
 // The answer of a refused call: the report as it was.
-pub(crate) fn kept(report: Report, number: u32, place: u32) -> Reported
+pub(crate) fn refused_report(report: Report, number: u32, place: u32) -> Reported
     ensures { λ r. ⌜ r ≡ record { outcome = Outcome.Refused number place; report = report } ⌝ }
 {
     Reported {

@@ -1,12 +1,12 @@
-// The mean response as a whole quotient, a remainder and the count; and the least and the greatest. `Mean` and `Extremes` stand in report: a
+// The mean response as a whole quotient, a remainder and the count; and the least and the greatest. `Mean` and `Extremes` stand in answers: a
 // module may not have two names that differ only in case.
 ghost use mathlib.Core.Path.{_≡_};
 ghost use Rattle.season.specs.Code.{Short};
 ghost use Rattle.season.specs.Extremes.{extremesOf};
 ghost use Rattle.season.specs.Mean.{meanOf};
-use crate::report::Extremes;
-use crate::report::Mean;
-use crate::report::Row;
+use crate::answers::Extremes;
+use crate::answers::Mean;
+use crate::answers::Row;
 
 // The sum divided by the count; no sum has more than 10 digits, so the three numbers have at most 21 together.
 pub(crate) fn divided(row: Row) -> Mean

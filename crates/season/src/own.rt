@@ -2,24 +2,22 @@
 ghost use mathlib.Core.Path.{_≡_};
 ghost use Prim.Native.Nat.{_-_};
 ghost use Rattle.tables.specs.Tables.{lists};
-ghost use Rattle.season.specs.Code.{Told, eleven};
-ghost use Rattle.season.specs.Own.{counted, jobRow, judgedRow, ownReport, withResponse};
+ghost use Rattle.season.specs.Code.{JudgedRun};
+ghost use Rattle.season.specs.Own.{countRow, jobRow, judgedRow, ownReport, withResponse};
+use crate::answers::Report;
+use crate::answers::Row;
 use crate::joins::empty_report;
-use crate::report::Report;
-use crate::report::Row;
 use crate::rows::join_rows;
 use tables::job_at;
 use tables::job_count;
-use tables::refuse;
-use zsrm::Outcome;
 use zsrm::Record;
 use zsrm::Standing;
 use zsrm::Verdict;
 use zsrm::Verdicts;
 
 // A row with these counts and no finished job.
-fn counted(met: u32, late: u32, ended: u32, opened: u32) -> Row
-    ensures { λ r. ⌜ r ≡ counted met late ended opened ⌝ }
+fn count_row(met: u32, late: u32, ended: u32, opened: u32) -> Row
+    ensures { λ r. ⌜ r ≡ countRow met late ended opened ⌝ }
 {
     Row {
         met,
@@ -38,16 +36,16 @@ fn judged_row(verdict: Verdict) -> Row
     ensures { λ r. ⌜ r ≡ judgedRow verdict ⌝ }
 {
     match verdict {
-        Verdict::Refused(_, _) => counted(0, 0, 0, 0),
-        Verdict::Met => counted(1, 0, 0, 0),
-        Verdict::Late(_, _) => counted(0, 1, 0, 0),
-        Verdict::Ended => counted(0, 0, 1, 0),
-        Verdict::Open => counted(0, 0, 0, 1),
+        Verdict::Refused(_, _) => count_row(0, 0, 0, 0),
+        Verdict::Met => count_row(1, 0, 0, 0),
+        Verdict::Late(_, _) => count_row(0, 1, 0, 0),
+        Verdict::Ended => count_row(0, 0, 1, 0),
+        Verdict::Open => count_row(0, 0, 0, 1),
     }
 }
 
 // From the arrival to the finishing instant; 0 where that lies before it, which no consistent record has.
-fn response(arrival: u32, instant: u32) -> u32
+fn response_time(arrival: u32, instant: u32) -> u32
     ensures { λ r. ⌜ r ≡ instant - arrival ⌝ }
 {
     if arrival <= instant {
@@ -65,7 +63,7 @@ fn with_response(row: Row, arrival: u32, standing: Standing) -> Row
         Standing::NotArrived => row,
         Standing::Unfinished => row,
         Standing::Finished(f) => {
-            let took = response(arrival, f);
+            let took = response_time(arrival, f);
             Row {
                 met: row.met,
                 late: row.late,
@@ -90,7 +88,7 @@ fn job_row(verdict: Verdict, arrival: u32, standing: Standing) -> Row
 
 // A run's own report, from its record and all verdicts: every job is joined to the row of its task.
 pub(crate) fn own_report(run: Record, all: Verdicts, tasks: &[u32], jobs: &[u32]) -> Report
-    requires { ⌜ Told (lists (now tasks) (now jobs)) run all ⌝ }
+    requires { ⌜ JudgedRun (lists (now tasks) (now jobs)) run all ⌝ }
     ensures { λ r. ⌜ r ≡ ownReport (lists (now (tasks .entry)) (now (jobs .entry))) run ⌝ }
 {
     let mut out = empty_report((tasks.len() / 7) as u32);
@@ -109,17 +107,4 @@ pub(crate) fn own_report(run: Record, all: Verdicts, tasks: &[u32], jobs: &[u32]
         j += 1;
     }
     out
-}
-
-// 11, as the verdict on job 0 tells of it: where the lists are accepted, it comes before 13.
-pub(crate) fn eleven(first: Verdict) -> Outcome
-    ensures { λ r. ⌜ r ≡ eleven first ⌝ }
-{
-    match first {
-        Verdict::Refused(number, _) => refuse(number == 11, 11, 0),
-        Verdict::Met => Outcome::Done,
-        Verdict::Late(_, _) => Outcome::Done,
-        Verdict::Ended => Outcome::Done,
-        Verdict::Open => Outcome::Done,
-    }
 }

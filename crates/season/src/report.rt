@@ -2,59 +2,19 @@
 // comes back; callers keep it where they like, so a call has an answer for any report.
 ghost use mathlib.Core.Path.{_≡_};
 ghost use Rattle.zsrm.specs.Given.{given};
-ghost use Rattle.season.specs.Own.{addAnswer};
-ghost use Rattle.season.specs.Reports.{emptyAnswer, joinAnswer};
+ghost use Rattle.season.specs.Answers.{addAnswer, emptyAnswer, joinAnswer};
+use crate::answers::Report;
+use crate::answers::Reported;
 use crate::joins::check18;
 use crate::joins::empty_report;
 use crate::joins::join_reports;
-use crate::joins::kept;
-use crate::own::eleven;
+use crate::joins::refused_report;
 use crate::own::own_report;
-use tables::before;
-use tables::check_lists;
 use tables::check_tasks;
 use zsrm::Mode;
 use zsrm::Outcome;
 use zsrm::Record;
 use zsrm::verdicts;
-
-// The numbers of one task. A response is a finishing instant minus the job's arrival.
-pub struct Row {
-    pub met: u32,
-    pub late: u32,
-    pub ended: u32,
-    pub open: u32,
-    // how many jobs finished, and the sum of their responses
-    pub finished: u32,
-    pub sum: u32,
-    // of their responses; these mean nothing where no job finished
-    pub least: u32,
-    pub greatest: u32,
-}
-
-// The rows by the numbers of their tasks; those from min(tasks, 16) on are not looked at.
-pub struct Report {
-    pub tasks: u32,
-    pub rows: [Row; 16],
-}
-
-// The answer of each call; a refused one hands back the report as it was.
-pub struct Reported {
-    pub outcome: Outcome,
-    pub report: Report,
-}
-
-// The mean response: a whole quotient, a remainder and the count of finished jobs; there is none without one.
-pub enum Mean {
-    None,
-    Of(u32, u32, u32),
-}
-
-// The least and the greatest response; there are none without a finished job.
-pub enum Extremes {
-    None,
-    Of(u32, u32),
-}
 
 impl Report {
     // The report of no runs of a table; refusals 2 to 4, the report then being all 0.
@@ -70,7 +30,7 @@ impl Report {
                     report,
                 }
             }
-            Outcome::Refused(number, place) => kept(empty_report(0), number, place),
+            Outcome::Refused(number, place) => refused_report(empty_report(0), number, place),
         }
     }
 
@@ -87,7 +47,7 @@ impl Report {
                     report,
                 }
             }
-            Outcome::Refused(eighteen, place) => kept(self, eighteen, place),
+            Outcome::Refused(eighteen, place) => refused_report(self, eighteen, place),
         }
     }
 
@@ -96,15 +56,13 @@ impl Report {
         ensures { λ r. ⌜ r ≡ addAnswer self (given mode (now (tasks .entry)) (now (jobs .entry))) run ⌝ }
     {
         let all = verdicts(run, mode, tasks, jobs);
-        let first = all.of[0];
-        let verdict = first.verdict;
-        let checked = before(check_lists(tasks, jobs), eleven(verdict));
+        let checked = all.outcome;
         match checked {
             Outcome::Done => {
                 let own = own_report(run, all, tasks, jobs);
                 self.join(own)
             }
-            Outcome::Refused(number, place) => kept(self, number, place),
+            Outcome::Refused(number, place) => refused_report(self, number, place),
         }
     }
 }

@@ -2,13 +2,13 @@
 ghost use mathlib.Core.Path.{_≡_};
 ghost use Prim.Native.Nat.{_+_, max, min};
 ghost use lib.Dec.{leb};
-ghost use Rattle.season.specs.Code.{Room};
-ghost use Rattle.season.specs.Rows.{among, fits, joinRow, most, noJobs};
-use crate::report::Row;
+ghost use Rattle.season.specs.Code.{Joinable};
+ghost use Rattle.season.specs.Rows.{among, fits, joinRow, most, emptyRow};
+use crate::answers::Row;
 
 // The row of a task without jobs.
-pub(crate) fn no_jobs() -> Row
-    ensures { λ r. ⌜ r ≡ noJobs ⌝ }
+pub(crate) fn empty_row() -> Row
+    ensures { λ r. ⌜ r ≡ emptyRow ⌝ }
 {
     Row {
         met: 0,
@@ -66,7 +66,7 @@ pub(crate) fn rows_fit(a: Row, b: Row) -> bool
 
 // Counts and sums are added; least and greatest are taken among the sides with a finished job.
 pub(crate) fn join_rows(a: Row, b: Row) -> Row
-    requires { ⌜ Room a b ⌝ }
+    requires { ⌜ Joinable a b ⌝ }
     ensures { λ r. ⌜ r ≡ joinRow a b ⌝ }
 {
     let here = 0 < a.finished;

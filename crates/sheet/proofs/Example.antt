@@ -3,14 +3,17 @@ use Prim.Native.Nat.{ℕ}
 use mathlib.Core.Path.{refl, _≡_}
 use mathlib.Core.List.{List, [], _∷_, _++_, map}
 use Rattle.bits.specs.Below.{count, every, greatest, least, listFrom, some}
-use Rattle.decimal.specs.Decimal.{asNumber, decimal, digits, leading, numberAt, size, spelled}
-use Rattle.sheet.specs.Grammar.{fieldAt, firstLine, numbersFrom, parsedOf}
-use Rattle.sheet.specs.Listing.{behindFirst, entry, givenListing, instant, jobLine, jobLines, lateness, line, listing, longest, longestFrom, printed, refusedLine, runLine, runListing, stretch, stretchLines, stretches, verdictLine, word}
+use Rattle.text.specs.Decimal.{asNumber, decimal, digits, leading, numberWithin, size, spelled}
+use Rattle.sheet.specs.Grammar.{fieldAt, firstLine, fieldsFrom, parsedOf}
+use Rattle.sheet.specs.Listing.{behindFirst, entry, givenListing, instant, jobLine, jobLines, lateness, line, listing, longest}
+use Rattle.sheet.specs.Listing.{longestFrom, printed, refusedLine, runLine, runListing, stretch, stretchLines, stretches, verdictLine, verdictWord}
 use Rattle.zsrm.specs.Record.{suspendedAt, waitedAt, arrived, arriving, doneAt, fresh, freshPlace, opening, placeAt, standingAt}
 use Rattle.tables.specs.Refusals.{ascending, before, check2, check3, check4, check5, check6, check7, check8, check9, checkJobs, checkLists, checkTasks, outside, preceding, refuse, unless}
 use Rattle.zsrm.specs.Run.{entriesBy, replay, runEntries, runRecord, finalBy}
-use Rattle.tables.specs.Tables.{arrival, criticality, deadline, deadlineInstant, execution, jobCount, jobCriticality, jobNominal, jobPriority, nominal, overload, period, priority, taskCount, taskOf, offset, zeroSlackInstant}
-use Rattle.zsrm.specs.Tick.{advanced, alive, candidate, choice, doneAfter, eligible, ends, finishes, goesOn, higherPriority, moreCritical, over, pastZeroSlack, placeAfter, someJob, standingAfter, suspended, suspendedAfter, waitedAfter, waits, keeps, lowest}
+use Rattle.tables.specs.Tables.{arrival, criticality, deadline, deadlineInstant, execution, jobCount, jobCriticality, jobNominal, jobPriority}
+use Rattle.tables.specs.Tables.{nominal, overload, period, priority, taskCount, taskOf, offset, zeroSlackInstant}
+use Rattle.zsrm.specs.Tick.{advanced, alive, candidate, choice, doneAfter, eligible, ends, finishes, goesOn, higherPriority, moreCritical}
+use Rattle.zsrm.specs.Tick.{over, pastZeroSlack, placeAfter, someJob, standingAfter, suspended, suspendedAfter, waitedAfter, waits, keeps, lowest}
 use Rattle.zsrm.specs.Verdict.{verdict}
 use mathlib.Core.Bool.{false, true}
 use Rattle.zsrm.specs.declared.answers.Verdict.the-variants.{Late}
@@ -71,7 +74,14 @@ table =
     ∷ []
 
 pub examples : map (λ r. listing (text r)) table ≡ map shown table
-unfolding some every least greatest count taskCount period deadline nominal overload criticality priority offset jobCount taskOf arrival execution jobCriticality jobPriority jobNominal zeroSlackInstant deadlineInstant refuse before ascending outside check2 check3 check4 checkTasks check5 preceding check6 check7 check8 checkJobs checkLists check9 placeAt doneAt suspendedAt waitedAt standingAt arriving arrived opening freshPlace fresh alive someJob moreCritical higherPriority pastZeroSlack suspended eligible candidate lowest keeps choice doneAfter over ends finishes suspendedAfter waits waitedAfter goesOn standingAfter placeAfter advanced replay entriesBy finalBy runEntries runRecord verdict unless listFrom leading spelled asNumber numberAt digits size decimal fieldAt numbersFrom firstLine parsedOf behindFirst line refusedLine runLine entry longestFrom longest stretch stretchLines stretches word instant lateness verdictLine jobLine jobLines printed runListing givenListing listing
+unfolding some every least greatest count taskCount period deadline nominal overload criticality priority offset jobCount taskOf arrival execution
+    jobCriticality jobPriority jobNominal zeroSlackInstant deadlineInstant refuse before ascending outside check2 check3 check4 checkTasks check5
+    preceding check6 check7 check8 checkJobs checkLists check9 placeAt doneAt suspendedAt waitedAt standingAt arriving arrived opening freshPlace
+    fresh alive someJob moreCritical higherPriority pastZeroSlack suspended eligible candidate lowest keeps choice doneAfter over ends finishes
+    suspendedAfter waits waitedAfter goesOn standingAfter placeAfter advanced replay entriesBy finalBy runEntries runRecord verdict unless listFrom
+    leading spelled asNumber numberWithin digits size decimal fieldAt fieldsFrom firstLine parsedOf behindFirst line refusedLine runLine entry
+    longestFrom longest stretch stretchLines stretches verdictWord instant lateness verdictLine jobLine jobLines printed runListing givenListing
+    listing
 examples = refl
 
 -- a late job's line: `job 2 late 18 =2 6 0` where it has finished, `job 2 late - >=0 6 0` where it is alive
@@ -80,5 +90,5 @@ late s = record { done = 4; suspended = 6; waited = 0; standing = s }
 
 pub late-lines : (verdictLine 2 (Late 2 true) (late (Finished 18)) ≡ 106 ∷ 111 ∷ 98 ∷ 32 ∷ 50 ∷ 32 ∷ 108 ∷ 97 ∷ 116 ∷ 101 ∷ 32 ∷ 49 ∷ 56 ∷ 32 ∷ 61 ∷ 50 ∷ 32 ∷ 54 ∷ 32 ∷ 48 ∷ 10 ∷ [])
     × (verdictLine 2 (Late 0 false) (late Unfinished) ≡ 106 ∷ 111 ∷ 98 ∷ 32 ∷ 50 ∷ 32 ∷ 108 ∷ 97 ∷ 116 ∷ 101 ∷ 32 ∷ 45 ∷ 32 ∷ 62 ∷ 61 ∷ 48 ∷ 32 ∷ 54 ∷ 32 ∷ 48 ∷ 10 ∷ [])
-unfolding verdictLine line behindFirst word instant lateness decimal size digits
+unfolding verdictLine line behindFirst verdictWord instant lateness decimal size digits
 late-lines = (refl, refl)

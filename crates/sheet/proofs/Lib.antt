@@ -1,9 +1,5 @@
-pub mod Numbers
-pub mod Sheets
+pub mod Laws
 pub mod Example
-pub mod Lines
-pub mod Runs
-pub mod Told
-pub mod Listings
+pub mod Promise
 pub mod Readings
 pub mod Unique

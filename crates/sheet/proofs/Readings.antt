@@ -10,9 +10,9 @@ use native.Mathlib.Omega.{arith}
 use lib.Dec.{eqb}
 use lib.ListN.{getD, length}
 use borrow.Author.Tests.{eqb-false, eqb-true}
-use Rattle.bits.proofs.Below.{last-or-below}
-use Rattle.bits.proofs.Bools.{by-cond}
-use Rattle.tables.specs.declared.outcome.Outcome.the-variants.{Done}
+use Rattle.bits.proofs.Laws.Below.{last-or-below}
+use Rattle.bits.proofs.Laws.Bools.{by-cond}
+use Rattle.tables.specs.declared.answers.Outcome.the-variants.{Done}
 use Rattle.tables.specs.Refusals.{before, check9, checkLists}
 use Rattle.zsrm.specs.declared.tie.Tie.the-variants.{Lowest}
 use Rattle.zsrm.specs.Run.{runEntries, runRecord}
@@ -37,7 +37,7 @@ Follow a [] b = a ≡ b
 Follow a (s ∷ ss) b = (s .first ≡ a) × Follow (s .next) ss b
 
 -- Entry t lies in stretch k, which shows it, and in no other.
-pub record Shown (es : List ℕ) (ss : List Stretch) (t k : ℕ) : Type 0 where
+pub record InStretch (es : List ℕ) (ss : List Stretch) (t k : ℕ) : Type 0 where
   pub place : k < length ss
   pub lies : Lies t (stretchAt ss k)
   pub shows : stretchAt ss k .entry ≡ getD es t idle
@@ -49,7 +49,7 @@ pub record Longest (es : List ℕ) (a : ℕ) (ss : List Stretch) (b : ℕ) : Typ
   pub follow : Follow a ss b
   pub filled : (k : ℕ) → k < length ss → stretchAt ss k .first < stretchAt ss k .next
   pub differ : (k : ℕ) → suc k < length ss → stretchAt ss k .entry ≢ stretchAt ss (suc k) .entry
-  pub shown : (t : ℕ) → a ≤ t → t < b → (k : ℕ) × Shown es ss t k
+  pub shown : (t : ℕ) → a ≤ t → t < b → (k : ℕ) × InStretch es ss t k
 
 -- ## Laws of the longest stretches, by the first of them
 
@@ -74,7 +74,7 @@ module _ (es : List ℕ) where
         shown = λ t l m. let w = v .shown t (omega (arith, v .follow .0, v .filled 0 (omega arith))) m in go t l (w .0) (w .1);
       }
     where
-      go : (t : ℕ) → s .next ≤ t → (k : ℕ) → Shown es (s ∷ ss) t k → (k : ℕ) × Shown es ss t k
+      go : (t : ℕ) → s .next ≤ t → (k : ℕ) → InStretch es (s ∷ ss) t k → (k : ℕ) × InStretch es ss t k
       go t l zero w = absurd (omega (arith, w .lies .1))
       go t l (suc k) w =
           (k, record { place = omega (arith, w .place); lies = w .lies; shows = w .shows; alone = λ i p x. omega (arith, w .alone (suc i) (omega arith) x) })
@@ -140,7 +140,7 @@ module _ (es : List ℕ) where
       differ zero m = d (omega arith)
       differ (suc k) m = v .differ k (omega arith)
 
-      shown : (t : ℕ) → a ≤ t → t < b → Dec (t < s .next) → (k : ℕ) × Shown es (s ∷ ss) t k
+      shown : (t : ℕ) → a ≤ t → t < b → Dec (t < s .next) → (k : ℕ) × InStretch es (s ∷ ss) t k
       shown t m n (yes y) = (0, record { place = omega arith; lies = (omega arith, y); shows = h t (omega arith, y); alone = alone })
         where
           alone : (i : ℕ) → i < suc (length ss) → Lies t (stretchAt (s ∷ ss) i) → i ≡ 0
@@ -149,7 +149,7 @@ module _ (es : List ℕ) where
       shown t m n (no y) =
           (suc (w .0), record { place = omega (arith, w .1 .place); lies = w .1 .lies; shows = w .1 .shows; alone = alone })
         where
-          w : (k : ℕ) × Shown es ss t k
+          w : (k : ℕ) × InStretch es ss t k
           w = v .shown t (omega arith) n
 
           alone : (i : ℕ) → i < suc (length ss) → Lies t (stretchAt (s ∷ ss) i) → i ≡ suc (w .0)

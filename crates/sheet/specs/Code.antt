@@ -1,12 +1,12 @@
--- How the code computes: the sheet by value, what the parts of the reading answer, what the writing of a run asks, and how a verdict is
--- written. The contract of `listing` does not cite it.
+-- How the code computes: the sheet by value, what the parts of the reading answer, and what the writing of a run asks. The contract of
+-- `listing` does not cite it.
 use Prim.Native.Nat.{ℕ, _/_, _≤_}
 use mathlib.Core.Bool.{false, true}
-use mathlib.Core.List.{List, [], _∷_, _++_}
+use mathlib.Core.List.{List}
 use mathlib.Core.Path.{_≡_}
 use lib.ListN.{length, replicate}
 use lib.Seq.{sets}
-use Rattle.tables.specs.declared.outcome.Outcome.the-variants.{Done}
+use Rattle.tables.specs.declared.answers.Outcome.the-variants.{Done}
 use Rattle.zsrm.specs.declared.record.Record.{Record}
 use Rattle.zsrm.specs.declared.mode.Mode.{Mode}
 use Rattle.zsrm.specs.declared.mode.Mode.the-variants.{S}
@@ -20,11 +20,6 @@ use Rattle.sheet.specs.declared.input.Next.the-variants.{At, Broken}
 use Rattle.sheet.specs.declared.input.Sheet.{Sheet}
 use Rattle.sheet.specs.Grammar.{Numbers, Parsed, bad, got, malformed, parsed, parsedOf}
 use Rattle.zsrm.specs.Given.{given}
-use Rattle.sheet.specs.Listing.{instant, sign, word}
-use Rattle.zsrm.specs.declared.record.Standing.{Standing}
-use Rattle.zsrm.specs.declared.answers.Verdict.{Verdict}
-use Rattle.decimal.specs.Decimal.{decimal}
-use Rattle.zsrm.specs.declared.answers.Verdict.the-variants as verdicts
 
 -- room for 16 tasks and for 64 jobs, all zeros
 unfoldable pub noTasks : List ℕ
@@ -34,8 +29,8 @@ unfoldable pub noJobs : List ℕ
 noJobs = replicate 192 0
 
 -- the sheet of a malformed text
-unfoldable pub nothing : Sheet
-nothing =
+unfoldable pub malformedSheet : Sheet
+malformedSheet =
     record { formed = false; mode = S; horizon = 0; tasks = 0; jobs = 0; table = noTasks; list = noJobs }
 
 -- What was read as a sheet by value: the lists stand at the front of their rooms.
@@ -50,7 +45,7 @@ asSheet (parsed mode horizon table list) =
       table = sets noTasks 0 table;
       list = sets noJobs 0 list;
     }
-asSheet malformed = nothing
+asSheet malformed = malformedSheet
 
 unfoldable pub sheetOf : List ℕ → Sheet
 sheetOf text = asSheet (parsedOf text)
@@ -66,18 +61,6 @@ Few (Heading letter horizon tasks jobs e) = (tasks ≤ 16) × (jobs ≤ 64)
 Few NoHead = Unit {0}
 
 -- lists that no check refuses, and a record that is consistent with them: each of their jobs has a verdict
-pub record Sound (mode : Mode) (tasks jobs : List ℕ) (r : Record) : Type 0 where
+pub record Judgeable (mode : Mode) (tasks jobs : List ℕ) (r : Record) : Type 0 where
   pub lists : checkLists (lists tasks jobs) ≡ Done
   pub sound : consistent (given mode tasks jobs) r ≡ true
-
--- by how much a job is late, with the space before it
-unfoldable pub lateText : Verdict → List ℕ
-lateText (verdicts.Refused number place) = []
-lateText verdicts.Met = []
-lateText (verdicts.Late by isExact) = 32 ∷ (sign isExact ++ decimal by)
-lateText verdicts.Ended = []
-lateText verdicts.Open = []
-
--- verdict, instant and by how much
-unfoldable pub verdictText : Verdict → Standing → List ℕ
-verdictText v s = word v ++ (32 ∷ (instant s ++ lateText v))

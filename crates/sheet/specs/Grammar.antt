@@ -6,9 +6,9 @@ use mathlib.Core.Bool.{Bool, _&&_, _||_, cond}
 use mathlib.Core.List.{List, [], _∷_}
 use lib.ListN.{length, getD}
 use lib.Dec.{leb, eqb}
-use Rattle.decimal.specs.declared.Number.{Number}
-use Rattle.decimal.specs.declared.Number.the-variants.{Value, Malformed}
-use Rattle.decimal.specs.Decimal.{numberAt}
+use Rattle.text.specs.declared.answers.Number.{Number}
+use Rattle.text.specs.declared.answers.Number.the-variants.{Value, Malformed}
+use Rattle.text.specs.Decimal.{decimalAt}
 use Rattle.zsrm.specs.declared.mode.Mode.{Mode}
 use Rattle.zsrm.specs.declared.mode.Mode.the-variants.{S, SE}
 use Rattle.sheet.specs.declared.input.Head.{Head}
@@ -21,11 +21,11 @@ endedBy text end Malformed = Malformed
 
 -- The number at a position, with the byte behind it.
 unfoldable pub fieldAt : List ℕ → ℕ → ℕ → Number
-fieldAt text at end = endedBy text end (numberAt text at)
+fieldAt text at end = endedBy text end (decimalAt text at)
 
 -- Where `per` numbers make a line, number i has a newline behind it if it is the line's last, and one space otherwise.
-abbrev pub endOf : ℕ → ℕ → ℕ
-endOf per i = cond (eqb ((i + 1) % per) 0) 10 32
+abbrev pub byteBehind : ℕ → ℕ → ℕ
+byteBehind per i = cond (eqb ((i + 1) % per) 0) 10 32
 
 -- numbers that were read, with the position after them, or a number that is not there
 pub data Numbers : Type 0 where
@@ -36,21 +36,21 @@ abbrev pub withFirst : ℕ → Numbers → Numbers
 withFirst v (got vs k) = got (v ∷ vs) k
 withFirst v bad = bad
 
-abbrev pub andThen : Number → (ℕ → Numbers) → Numbers
-andThen (Value v k) rest = withFirst v (rest k)
-andThen Malformed rest = bad
+abbrev pub withRest : Number → (ℕ → Numbers) → Numbers
+withRest (Value v k) rest = withFirst v (rest k)
+withRest Malformed rest = bad
 
 -- n numbers in lines of `per`, the first of them being number i.
-unfoldable pub numbersFrom : List ℕ → ℕ → ℕ → ℕ → ℕ → Numbers
-numbersFrom text per i zero at = got [] at
-numbersFrom text per i (suc n) at = andThen (fieldAt text at (endOf per i)) (λ k. numbersFrom text per (suc i) n k)
+unfoldable pub fieldsFrom : List ℕ → ℕ → ℕ → ℕ → ℕ → Numbers
+fieldsFrom text per i zero at = got [] at
+fieldsFrom text per i (suc n) at = withRest (fieldAt text at (byteBehind per i)) (λ k. fieldsFrom text per (suc i) n k)
 
 -- The mode letter is S or E.
 abbrev pub isMode : ℕ → Bool
 isMode b = eqb b 83 || eqb b 69
 
-abbrev pub modeOf : ℕ → Mode
-modeOf b = cond (eqb b 83) S SE
+abbrev pub modeOfLetter : ℕ → Mode
+modeOfLetter b = cond (eqb b 83) S SE
 
 abbrev pub withNumber : Number → (ℕ → ℕ → Head) → Head
 withNumber (Value v k) rest = rest v k
@@ -83,6 +83,6 @@ withNumbers bad rest = malformed
 unfoldable pub parsedOf : List ℕ → Parsed
 parsedOf text =
     withHead (firstLine text)
-    (λ letter horizon tasks jobs a. withNumbers (numbersFrom text 7 0 (tasks * 7) a)
-    (λ table b. withNumbers (numbersFrom text 3 0 (jobs * 3) b)
-    (λ list e. cond (eqb e (length text)) (parsed (modeOf letter) horizon table list) malformed)))
+    (λ letter horizon tasks jobs a. withNumbers (fieldsFrom text 7 0 (tasks * 7) a)
+    (λ table b. withNumbers (fieldsFrom text 3 0 (jobs * 3) b)
+    (λ list e. cond (eqb e (length text)) (parsed (modeOfLetter letter) horizon table list) malformed)))

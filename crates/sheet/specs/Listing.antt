@@ -1,9 +1,9 @@
 -- Document 01, "The listing": the output text, as bytes.
-use Prim.Native.Nat.{ℕ, zero, suc, _+_}
+use Prim.Native.Nat.{ℕ, zero, suc}
 use mathlib.Core.Bool.{Bool, cond, false, true}
 use mathlib.Core.List.{List, [], _∷_, _++_}
 use lib.Dec.{eqb}
-use Rattle.decimal.specs.Decimal.{decimal}
+use Rattle.text.specs.Decimal.{decimal}
 use Rattle.zsrm.specs.declared.mode.Mode.{Mode}
 use Rattle.zsrm.specs.declared.tie.Tie.the-variants.{Lowest}
 use Rattle.zsrm.specs.declared.mode.Mode.the-variants.{S, SE}
@@ -82,12 +82,12 @@ unfoldable pub stretches : List ℕ → List ℕ
 stretches es = stretchLines (longest es)
 
 -- the words `met`, `late`, `ended`, `open`; the verdict on a job of the list is no refusal
-unfoldable pub word : Verdict → List ℕ
-word (verdicts.Refused number place) = []
-word verdicts.Met = 109 ∷ 101 ∷ 116 ∷ []
-word (verdicts.Late by isExact) = 108 ∷ 97 ∷ 116 ∷ 101 ∷ []
-word verdicts.Ended = 101 ∷ 110 ∷ 100 ∷ 101 ∷ 100 ∷ []
-word verdicts.Open = 111 ∷ 112 ∷ 101 ∷ 110 ∷ []
+unfoldable pub verdictWord : Verdict → List ℕ
+verdictWord (verdicts.Refused number place) = []
+verdictWord verdicts.Met = 109 ∷ 101 ∷ 116 ∷ []
+verdictWord (verdicts.Late by isExact) = 108 ∷ 97 ∷ 116 ∷ 101 ∷ []
+verdictWord verdicts.Ended = 101 ∷ 110 ∷ 100 ∷ 101 ∷ 100 ∷ []
+verdictWord verdicts.Open = 111 ∷ 112 ∷ 101 ∷ 110 ∷ []
 
 -- finishing instant or ending tick, `-` where there is neither
 unfoldable pub instant : Standing → List ℕ
@@ -112,7 +112,7 @@ lateness verdicts.Open = []
 -- The word `job`, number, verdict, the instant, by how much, and the ticks suspended and waited.
 unfoldable pub verdictLine : ℕ → Verdict → Place → List ℕ
 verdictLine j verdict p =
-    line (106 ∷ 111 ∷ 98 ∷ []) (decimal j ∷ word verdict ∷ instant (p .standing) ∷ (lateness verdict ++ (decimal (p .suspended) ∷ decimal (p .waited) ∷ [])))
+    line (106 ∷ 111 ∷ 98 ∷ []) (decimal j ∷ verdictWord verdict ∷ instant (p .standing) ∷ (lateness verdict ++ (decimal (p .suspended) ∷ decimal (p .waited) ∷ [])))
 
 module _ (l : Lists) where
   -- the line of job j from a record

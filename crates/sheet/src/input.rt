@@ -2,9 +2,9 @@
 ghost use mathlib.Core.Path.{_≡_};
 ghost use Prim.Native.Nat.{_≤_, _<_};
 ghost use lib.ListN.{length};
-ghost use Rattle.sheet.specs.Grammar.{endOf, fieldAt, firstLine, isMode, modeOf, numbersFrom};
-ghost use Rattle.sheet.specs.Code.{Few, NumbersAre, noJobs, noTasks, nothing, sheetOf};
-use decimal::Number;
+ghost use Rattle.sheet.specs.Grammar.{byteBehind, fieldAt, firstLine, isMode, modeOfLetter, fieldsFrom};
+ghost use Rattle.sheet.specs.Code.{Few, NumbersAre, noJobs, noTasks, malformedSheet, sheetOf};
+use text::Number;
 use zsrm::Mode;
 
 // What an input text says; where it is malformed, not formed, and every number in it is 0.
@@ -35,9 +35,9 @@ fn field(text: &[u8], at: usize, end: u32) -> Number
     requires { ⌜ end < 256 ⌝ }
     ensures { λ r. ⌜ r ≡ fieldAt (now (text .entry)) at end ⌝ }
 {
-    match decimal::read(text, at) {
+    match text::read(text, at) {
         Number::Value(v, k) => {
-            if decimal::byte_at(text, k) == end {
+            if text::byte_at(text, k) == end {
                 return Number::Value(v, k + 1);
             }
             Number::Malformed
@@ -47,9 +47,9 @@ fn field(text: &[u8], at: usize, end: u32) -> Number
 }
 
 // The byte behind number i, where `per` numbers make a line.
-fn end_of(per: usize, i: usize) -> u32
+fn byte_behind(per: usize, i: usize) -> u32
     requires { ⌜ (1 ≤ per) × (i < 1000) ⌝ }
-    ensures { λ r. ⌜ r ≡ endOf per i ⌝ }
+    ensures { λ r. ⌜ r ≡ byteBehind per i ⌝ }
 {
     if (i + 1) % per == 0 { 10 } else { 32 }
 }
@@ -58,12 +58,12 @@ fn end_of(per: usize, i: usize) -> u32
 fn numbers(text: &[u8], at: usize, per: usize, n: usize, list: &mut [u32]) -> Next
     requires { ⌜ (1 ≤ per) × (n < 1000) ⌝ }
     requires { ⌜ n ≤ length (now list) ⌝ }
-    ensures { λ r. ⌜ NumbersAre (numbersFrom (now (text .entry)) per 0 n at) r (now (list .entry)) (now (list .exit)) ⌝ }
+    ensures { λ r. ⌜ NumbersAre (fieldsFrom (now (text .entry)) per 0 n at) r (now (list .entry)) (now (list .exit)) ⌝ }
 {
     let mut i: usize = 0;
     let mut k = at;
     while i < n {
-        let Number::Value(v, next) = field(text, k, end_of(per, i)) else {
+        let Number::Value(v, next) = field(text, k, byte_behind(per, i)) else {
             return Next::Broken;
         };
         list[i] = v;
@@ -81,8 +81,8 @@ fn is_mode(b: u32) -> bool
 }
 
 // The mode of its letter.
-fn mode_of(b: u32) -> Mode
-    ensures { λ r. ⌜ r ≡ modeOf b ⌝ }
+fn mode_of_letter(b: u32) -> Mode
+    ensures { λ r. ⌜ r ≡ modeOfLetter b ⌝ }
 {
     if b == 83 { Mode::S } else { Mode::SE }
 }
@@ -92,9 +92,9 @@ fn first_line(text: &[u8]) -> Head
     ensures is { λ r. ⌜ r ≡ firstLine (now (text .entry)) ⌝ }
     ensures few { λ r. ⌜ Few r ⌝ }
 {
-    let letter = decimal::byte_at(text, 0);
+    let letter = text::byte_at(text, 0);
     let mode = is_mode(letter);
-    let space = decimal::byte_at(text, 1);
+    let space = text::byte_at(text, 1);
     if !(mode & (space == 32)) {
         return Head::NoHead;
     }
@@ -128,8 +128,8 @@ fn no_jobs() -> [u32; 192]
 }
 
 // The sheet of a malformed text.
-fn nothing() -> Sheet
-    ensures { λ r. ⌜ r ≡ nothing ⌝ }
+fn malformed_sheet() -> Sheet
+    ensures { λ r. ⌜ r ≡ malformedSheet ⌝ }
 {
     Sheet {
         formed: false,
@@ -147,22 +147,22 @@ pub(crate) fn parse(text: &[u8]) -> Sheet
     ensures { λ r. ⌜ r ≡ sheetOf (now (text .entry)) ⌝ }
 {
     let Head::Heading(letter, horizon, t, j, a) = first_line(text) else {
-        return nothing();
+        return malformed_sheet();
     };
     let tasks = t as usize;
     let jobs = j as usize;
     let mut table = no_tasks();
     let Next::At(b) = numbers(text, a, 7, tasks * 7, &mut table) else {
-        return nothing();
+        return malformed_sheet();
     };
     let mut list = no_jobs();
     let Next::At(e) = numbers(text, b, 3, jobs * 3, &mut list) else {
-        return nothing();
+        return malformed_sheet();
     };
     if e != text.len() {
-        return nothing();
+        return malformed_sheet();
     }
-    let mode = mode_of(letter);
+    let mode = mode_of_letter(letter);
     Sheet {
         formed: true,
         mode,

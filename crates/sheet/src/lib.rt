@@ -4,8 +4,8 @@ ghost use mathlib.Core.Path.{_≡_};
 ghost use Prim.Native.Nat.{_≤_, _<_};
 ghost use lib.ListN.{length};
 ghost use Rattle.sheet.specs.Listing.{givenListing, listing, printed};
-ghost use Rattle.decimal.specs.Wrote.{Wrote};
-ghost use Rattle.sheet.specs.Code.{Sound};
+ghost use Rattle.text.specs.Wrote.{Put, Wrote};
+ghost use Rattle.sheet.specs.Code.{Judgeable};
 ghost use Rattle.zsrm.specs.Given.{given};
 use input::parse;
 use output::put_head;
@@ -30,9 +30,9 @@ fn put_run(
     schedule: &[u16],
     rec: Record,
 ) -> usize
-    requires { ⌜ Sound mode (now tasks) (now jobs) rec ⌝ }
-    requires { ⌜ (length (now schedule) ≤ 16384) × (600000 ≤ length (now out)) ⌝ }
-    ensures { λ r. ⌜ Wrote (now (out .entry)) 0 (printed (given mode (now (tasks .entry)) (now (jobs .entry))) horizon (now (schedule .entry)) rec) (now (out .exit)) r ⌝ }
+    requires { ⌜ Judgeable mode (now tasks) (now jobs) rec ⌝ }
+    requires { ⌜ length (now schedule) ≤ 16384 ⌝ }
+    ensures { λ r. ⌜ Put (now (out .entry)) 0 (printed (given mode (now (tasks .entry)) (now (jobs .entry))) horizon (now (schedule .entry)) rec) (now (out .exit)) r ⌝ }
 {
     let a = put_head(out, 0, mode, horizon);
     let b = put_stretches(out, a, schedule);
@@ -49,8 +49,7 @@ fn put_given(
     schedule: &mut [u16],
 ) -> usize
     requires { ⌜ (length (now schedule) ≡ horizon) ⊎ (16384 < horizon) ⌝ }
-    requires { ⌜ 600000 ≤ length (now out) ⌝ }
-    ensures { λ r. ⌜ Wrote (now (out .entry)) 0 (givenListing (given mode (now (tasks .entry)) (now (jobs .entry))) horizon) (now (out .exit)) r ⌝ }
+    ensures { λ r. ⌜ Put (now (out .entry)) 0 (givenListing (given mode (now (tasks .entry)) (now (jobs .entry))) horizon) (now (out .exit)) r ⌝ }
 {
     let ran = zsrm::run(mode, Tie::Lowest, tasks, jobs, horizon, schedule);
     let outcome = ran.outcome;
@@ -77,8 +76,7 @@ fn no_entries() -> [u16; 16384]
 
 // What is printed for a text that is well formed.
 fn put_sheet(out: &mut [u8], mode: Mode, tasks: &[u32], jobs: &[u32], horizon: u32) -> usize
-    requires { ⌜ 600000 ≤ length (now out) ⌝ }
-    ensures { λ r. ⌜ Wrote (now (out .entry)) 0 (givenListing (given mode (now (tasks .entry)) (now (jobs .entry))) horizon) (now (out .exit)) r ⌝ }
+    ensures { λ r. ⌜ Put (now (out .entry)) 0 (givenListing (given mode (now (tasks .entry)) (now (jobs .entry))) horizon) (now (out .exit)) r ⌝ }
 {
     let mut entries = no_entries();
     let n = ticks(horizon);

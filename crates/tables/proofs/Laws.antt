@@ -2,4 +2,5 @@
 pub mod Refusals
 pub mod Accepted
 pub mod Small
+pub mod Bytes
 pub mod Said

@@ -8,17 +8,13 @@ use mathlib.Core.Path.{refl, _∙_, _≡_, sym}
 use native.Mathlib.Omega.{arith}
 use lib.Dec.{eqb, ltb}
 use borrow.Author.Tests.{eq-eqb, eqb-false, eqb-true, ne-eqb}
-use Rattle.bits.proofs.Bools.{passed, passes}
+use Rattle.bits.proofs.Laws.Bools.{passed, passes, apart}
 use Rattle.bits.proofs.Readings.{greatest-reads}
-use Rattle.tables.specs.declared.outcome.Outcome.{Outcome}
-use Rattle.tables.specs.declared.outcome.Outcome.the-variants.{Done, Refused}
+use Rattle.tables.specs.declared.answers.Outcome.{Outcome}
+use Rattle.tables.specs.declared.answers.Outcome.the-variants.{Done, Refused}
 use Rattle.tables.specs.Tables.{arrival, period, taskOf}
 use Rattle.tables.specs.Refusals.{ascending, before, check8, preceding, refuse}
 use Rattle.tables.proofs.Laws.Refusals.{ascending-at, before-first, before-second, refused-here}
-
--- two constructors are never equal, which `cc` finds
-apart : {A : Type 0} → _≡_ {A = ℕ} 0 1 → A
-apart z = absurd (omega arith)
 
 -- "Given exactly when": a check refuses exactly when its test passes, and is done exactly when it fails.
 pub refuse-reads : (b : Bool) (number place : ℕ) → refuse b number place ≡ Refused number place ↔ b ≡ true

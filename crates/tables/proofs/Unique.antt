@@ -1,11 +1,13 @@
--- Each contract leaves one answer: `Learnt` is what a function's contract says of the arguments, the result and the parameters at exit.
--- No function is lent a list to be written.
+-- Each contract leaves one answer, and of `put_at` one content of the lent list: `Learnt` is what a function's contract says of the arguments,
+-- the result and the parameters at exit. No other function is lent a list to be written.
 use Prim.Native.Nat.{ℕ}
 use mathlib.Core.Path.{ap, sym, _∙_, _≡_}
 use contract.Lifetimes.{Lfts}
+use denote.Ref.{now}
 use Rattle.tables.specs.declared.fields.Criticality.{Criticality}
 use Rattle.tables.specs.declared.fields.Priority.{Priority}
 use Rattle.tables.proofs.bytes.number_at.Reads as number-at
+use Rattle.tables.proofs.bytes.put_at.Reads as put-at
 use Rattle.tables.proofs.fields.Criticality.exceeds.Reads as exceeds
 use Rattle.tables.proofs.fields.Priority.equals.Reads as equals
 use Rattle.tables.proofs.fields.criticality_of.Reads as criticality-of
@@ -21,11 +23,15 @@ use Rattle.tables.proofs.refusals.check13.Reads as check13
 use Rattle.tables.proofs.refusals.check9.Reads as check9
 use Rattle.tables.proofs.refusals.check_jobs.Reads as check-jobs
 use Rattle.tables.proofs.refusals.check_lists.Reads as check-lists
+use Rattle.tables.proofs.refusals.check_schedule.Reads as check-schedule
 use Rattle.tables.proofs.refusals.check_tasks.Reads as check-tasks
 use Rattle.tables.proofs.refusals.refuse.Reads as refuse
 
 pub number-at-one : (κs : Lfts 1) (a : _) (r s : _) (e f : _) → number-at.Learnt κs a r e → number-at.Learnt κs a s f → r ≡ s
 number-at-one κs a r s e f p q = p ∙ sym q
+
+pub put-at-one : (κs : Lfts 1) (a : _) (r s : _) (e f : _) → put-at.Learnt κs a r e → put-at.Learnt κs a s f → now (e .0) ≡ now (f .0)
+put-at-one κs a r s e f p q = p ∙ sym q
 
 pub job-at-one : (κs : Lfts 1) (a : _) (r s : _) (e f : _) → job-at.Learnt κs a r e → job-at.Learnt κs a s f → r ≡ s
 job-at-one κs a r s e f p q = p ∙ sym q
@@ -75,6 +81,9 @@ check9-one κs a r s e f p q = p ∙ sym q
 
 pub check10-one : (κs : _) (a : _) (r s : _) (e f : _) → check10.Learnt κs a r e → check10.Learnt κs a s f → r ≡ s
 check10-one κs a r s e f p q = p ∙ sym q
+
+pub check-schedule-one : (κs : Lfts 2) (a : _) (r s : _) (e f : _) → check-schedule.Learnt κs a r e → check-schedule.Learnt κs a s f → r ≡ s
+check-schedule-one κs a r s e f p q = p ∙ sym q
 
 pub check13-one : (κs : Lfts 1) (a : _) (r s : _) (e f : _) → check13.Learnt κs a r e → check13.Learnt κs a s f → r ≡ s
 check13-one κs a r s e f p q = p ∙ sym q

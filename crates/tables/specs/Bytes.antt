@@ -1,8 +1,32 @@
--- A number as bytes, its lowest byte first.
-use Prim.Native.Nat.{ℕ, _+_, _*_}
-use mathlib.Core.List.{List}
-use lib.ListN.{getD}
+-- Numbers as bytes, the lowest byte first. A number's width is how many bytes it has.
+use Prim.Native.Nat.{ℕ, zero, suc, _+_, _*_, _/_, _%_}
+use mathlib.Core.Bool.{cond}
+use mathlib.Core.List.{List, [], _∷_, _++_}
+use lib.Dec.{leb}
+use lib.ListN.{length, getD}
+use lib.Seq.{sets}
+use Rattle.bits.specs.Below.{listFrom}
 
--- the number of four bytes that begins at byte `at`; a byte past the end is 0
-unfoldable pub numberAt : List ℕ → ℕ → ℕ
-numberAt bytes at = getD bytes at 0 + getD bytes (at + 1) 0 * 256 + getD bytes (at + 2) 0 * 65536 + getD bytes (at + 3) 0 * 16777216
+-- the number that begins at byte `at`; a byte past the end is 0
+unfoldable pub numberAt : ℕ → List ℕ → ℕ → ℕ
+numberAt zero bytes at = 0
+numberAt (suc width) bytes at = getD bytes at 0 + numberAt width bytes (suc at) * 256
+
+-- the numbers that bytes spell, one behind another
+unfoldable pub numbersIn : ℕ → List ℕ → List ℕ
+numbersIn width bytes = listFrom 0 (length bytes / width) (λ i. numberAt width bytes (i * width))
+
+-- a number as bytes; the last has the rest, which is a byte where the number fits its width
+unfoldable pub numberBytes : ℕ → ℕ → List ℕ
+numberBytes zero x = []
+numberBytes (suc zero) x = x ∷ []
+numberBytes (suc (suc width)) x = x % 256 ∷ numberBytes (suc width) (x / 256)
+
+-- numbers as bytes, one behind another
+unfoldable pub bytesOf : ℕ → List ℕ → List ℕ
+bytesOf width [] = []
+bytesOf width (x ∷ xs) = numberBytes width x ++ bytesOf width xs
+
+-- bytes in which a number is written at byte `at`; where it does not fit, they are as they were
+unfoldable pub putAt : ℕ → List ℕ → ℕ → ℕ → List ℕ
+putAt width bytes at x = cond (leb (at + width) (length bytes)) (sets bytes at (numberBytes width x)) bytes

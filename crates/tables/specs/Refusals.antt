@@ -6,8 +6,8 @@ use mathlib.Core.List.{List}
 use lib.ListN.{length}
 use lib.Dec.{ltb, eqb}
 use Rattle.bits.specs.Below.{greatest}
-use Rattle.tables.specs.declared.outcome.Outcome.{Outcome}
-use Rattle.tables.specs.declared.outcome.Outcome.the-variants.{Done, Refused}
+use Rattle.tables.specs.declared.answers.Outcome.{Outcome}
+use Rattle.tables.specs.declared.answers.Outcome.the-variants.{Done, Refused}
 use Rattle.tables.specs.Tables.{Lists, taskCount, period, deadline, nominal, overload, criticality, priority, offset, jobCount, taskOf, arrival, execution}
 
 -- A check refuses, with its number and place, exactly when its test passes.
@@ -98,6 +98,10 @@ check9 horizon = refuse (ltb 16384 horizon) 9 0
 -- 10: the schedule list's length differs from the horizon
 unfoldable pub check10 : ℕ → ℕ → Outcome
 check10 entries horizon = refuse (not (eqb entries horizon)) 10 0
+
+-- what every entry point that is given lists, a horizon and a schedule checks: of a schedule, the number of its entries
+unfoldable pub checkSchedule : Lists → ℕ → ℕ → Outcome
+checkSchedule l horizon entries = before (checkLists l) (before (check9 horizon) (check10 entries horizon))
 
 -- 13: the call names a job not in the list
 unfoldable pub check13 : List ℕ → ℕ → Outcome

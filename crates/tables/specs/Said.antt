@@ -1,8 +1,8 @@
 -- The outcome of checks said in numbers: a refusal is its number and its place, done is 0.
 use Prim.Native.Nat.{ℕ}
 use mathlib.Core.List.{List, [], _∷_}
-use Rattle.tables.specs.declared.outcome.Outcome.{Outcome}
-use Rattle.tables.specs.declared.outcome.Outcome.the-variants.{Done, Refused}
+use Rattle.tables.specs.declared.answers.Outcome.{Outcome}
+use Rattle.tables.specs.declared.answers.Outcome.the-variants.{Done, Refused}
 
 -- Refused with a number and a place: two numbers, in every kind of answer.
 abbrev pub refused : ℕ → ℕ → List ℕ

@@ -1,11 +1,13 @@
 // Document 01, "Tables and lists" and the refusals that task tables, job lists, horizons and schedule lengths meet: what every entry point
 // that is given such lists checks first, and how their numbers are read. Knows no mode and no record.
+mod answers;
 mod bytes;
 mod fields;
-mod outcome;
 mod refusals;
 
+pub use answers::Outcome;
 pub use bytes::number_at;
+pub use bytes::put_at;
 pub use fields::Criticality;
 pub use fields::IDLE;
 pub use fields::Job;
@@ -17,10 +19,10 @@ pub use fields::job_count;
 pub use fields::nominal_of;
 pub use fields::priority_of;
 pub use fields::zero_slack_instant;
-pub use outcome::Outcome;
 pub use refusals::before;
 pub use refusals::check_jobs;
 pub use refusals::check_lists;
+pub use refusals::check_schedule;
 pub use refusals::check_tasks;
 pub use refusals::check9;
 pub use refusals::check10;

@@ -2,10 +2,10 @@
 // The lists may be of any length and hold any numbers: a field past a list's end is 0, and no sum wraps.
 ghost use mathlib.Core.Path.{_≡_};
 ghost use Rattle.tables.specs.Tables.{lists};
-ghost use Rattle.tables.specs.Refusals.{refuse, before, outside, check3, check4, checkTasks, preceding, check6, check7, check8, checkJobs, checkLists, check9, check10, check13};
+ghost use Rattle.tables.specs.Refusals.{refuse, before, outside, check3, check4, checkTasks, preceding, check6, check7, check8, checkJobs, checkLists, check9, check10, checkSchedule, check13};
+use crate::answers::Outcome;
 use crate::fields::job_at;
 use crate::fields::task_at;
-use crate::outcome::Outcome;
 
 // A check refuses, with its number and place, exactly when its test passes.
 pub fn refuse(test: bool, number: u32, place: u32) -> Outcome
@@ -68,7 +68,7 @@ fn check4(tasks: &[u32], k: u32) -> Outcome
 }
 
 // 3 before 4, for task k.
-fn check_task(tasks: &[u32], k: u32) -> Outcome
+fn check_one_task(tasks: &[u32], k: u32) -> Outcome
     ensures { λ r. let ts = now (tasks .entry) in ⌜ r ≡ before (check3 ts k) (check4 ts k) ⌝ }
 {
     before(check3(tasks, k), check4(tasks, k))
@@ -84,7 +84,7 @@ pub fn check_tasks(tasks: &[u32]) -> Outcome
     }
     let mut found = Outcome::Done;
     for k in 0..count {
-        found = before(found, check_task(tasks, k as u32));
+        found = before(found, check_one_task(tasks, k as u32));
     }
     found
 }
@@ -145,7 +145,7 @@ fn check8(tasks: &[u32], jobs: &[u32], j: u32) -> Outcome
 }
 
 // 6, 7, 8 in this order, for job j.
-fn check_job(tasks: &[u32], jobs: &[u32], j: u32) -> Outcome
+fn check_one_job(tasks: &[u32], jobs: &[u32], j: u32) -> Outcome
     ensures { λ r. let ts = now (tasks .entry) in let js = now (jobs .entry) in
         ⌜ r ≡ before (check6 ts js j) (before (check7 js j) (check8 ts js j)) ⌝ }
 {
@@ -165,7 +165,7 @@ pub fn check_jobs(tasks: &[u32], jobs: &[u32]) -> Outcome
     }
     let mut found = Outcome::Done;
     for j in 0..count {
-        found = before(found, check_job(tasks, jobs, j as u32));
+        found = before(found, check_one_job(tasks, jobs, j as u32));
     }
     found
 }
@@ -189,6 +189,16 @@ pub fn check10(entries: usize, horizon: u32) -> Outcome
     ensures { λ r. ⌜ r ≡ check10 entries horizon ⌝ }
 {
     refuse(!(entries == (horizon as usize)), 10, 0)
+}
+
+// What every entry point that is given lists, a horizon and a schedule checks: 2 to 10.
+pub fn check_schedule(tasks: &[u32], jobs: &[u32], horizon: u32, entries: usize) -> Outcome
+    ensures { λ r. ⌜ r ≡ checkSchedule (lists (now (tasks .entry)) (now (jobs .entry))) horizon entries ⌝ }
+{
+    before(
+        check_lists(tasks, jobs),
+        before(check9(horizon), check10(entries, horizon)),
+    )
 }
 
 // 13: the call names a job not in the list.

@@ -23,8 +23,8 @@ use drawn::answers::AT_LEAST;
 use drawn::answers::ENDED;
 use drawn::answers::NUMBERED;
 use drawn::answers::OUTSIDE;
+use drawn::answers::answer_if;
 use drawn::answers::mode_of;
-use drawn::answers::told;
 use drawn::judge::FINE;
 use drawn::judge::late;
 use drawn::judge::refusal;
@@ -140,7 +140,7 @@ fn try_witness(
         PART,
         j,
         of_part(length),
-        told(of_part(part.len()), same, true, true),
+        answer_if(of_part(part.len()), same, true, true),
     );
 }
 
@@ -194,16 +194,36 @@ fn try_claim(
 
 // The kinds of claims: our run, the run that takes the last of equals, and our run with one of six changes; every other time the last four
 // are made to the run that takes the last of equals.
-const OUR_RUN: u32 = 0;
+pub(crate) const OUR_RUN: u32 = 0;
 
 const LAST_OF_EQUALS: u32 = 1;
 
 // Our run is claimed always, the others where there is a tick. On a long run, where a claim costs most, there is one change.
-fn claimed(kind: u32, ticks: u32, trial: u32) -> bool {
+pub(crate) fn claimed(kind: u32, ticks: u32, trial: u32) -> bool {
     if kind == OUR_RUN {
         return true;
     }
     (0 < ticks) & ((ticks <= 500) | (kind == LAST_OF_EQUALS) | (kind == 2 + trial % 6))
+}
+
+// Writes the claim of a kind.
+pub(crate) fn make_claim(
+    case: Case,
+    tasks: &[u32],
+    jobs: &[u32],
+    kind: u32,
+    ticks: u32,
+    line: &mut Line,
+) {
+    let n = ((jobs.len() / 3) % 128) as u32;
+    let other = (3 < kind) & (case.trial % 2 == 1);
+    let way = if other | (kind == LAST_OF_EQUALS) {
+        LAST
+    } else {
+        case.way
+    };
+    fly(case.se, tasks, jobs, ticks, way, line);
+    change(line, kind, case.trial, n, ticks);
 }
 
 pub(crate) fn try_claims(
@@ -215,18 +235,10 @@ pub(crate) fn try_claims(
     ticks: u32,
     between: usize,
 ) {
-    let n = ((jobs.len() / 3) % 128) as u32;
     let mut line = no_line();
     for kind in 0..8 {
         if claimed(kind, ticks, case.trial) {
-            let other = (3 < kind) & (case.trial % 2 == 1);
-            let way = if other | (kind == LAST_OF_EQUALS) {
-                LAST
-            } else {
-                case.way
-            };
-            fly(case.se, tasks, jobs, ticks, way, &mut line);
-            change(&mut line, kind, case.trial, n, ticks);
+            make_claim(case, tasks, jobs, kind, ticks, &mut line);
             let call = CLAIM + 64 * ((kind % 8) as usize);
             try_claim(t, case, tasks, jobs, &line, own, call, between);
         }

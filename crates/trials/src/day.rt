@@ -15,14 +15,15 @@ use crate::tally::DAY;
 use crate::tally::DAY_VERDICT;
 use crate::tally::PROMISED;
 use crate::tally::TO_ENDED;
+use drawn::answers::DONE;
 use drawn::answers::ENDED;
 use drawn::answers::MET;
 use drawn::answers::REFUSED;
 use drawn::answers::STAYING;
+use drawn::answers::answer_if;
 use drawn::answers::mode_of;
 use drawn::answers::of_outcome;
 use drawn::answers::of_verdict;
-use drawn::answers::told;
 use drawn::draw::draw;
 use drawn::inputs::Input;
 use drawn::inputs::Size;
@@ -168,7 +169,7 @@ fn try_promise(t: &mut Tally, case: Case, jobs: &[u32], rec: Record, line: &[u16
             PROMISED,
             i,
             MET,
-            told(verdict, true, witness == NOT_MISSED, through),
+            answer_if(verdict, true, witness == NOT_MISSED, through),
         );
     }
 }
@@ -185,13 +186,16 @@ fn try_jobs(
 ) {
     let line = front_of_line(all, case.room);
     let judged = planter::verdicts(rec, mode_of(case.se), jobs);
+    let outcome = judged.outcome;
+    let told = of_outcome(outcome) == DONE;
     for j in 0..64 {
         if j < jobs.len() / 3 {
             let i = (j % 64) as u32;
             let one = judged.of[j];
             let verdict = one.verdict;
             let want = verdict_of(end, tasks, jobs, i);
-            note(t, DAY_VERDICT, i, want, of_verdict(verdict));
+            let got = answer_if(of_verdict(verdict), true, told, true);
+            note(t, DAY_VERDICT, i, want, got);
             try_promise(t, case, jobs, rec, line, j);
         }
     }
@@ -228,7 +232,7 @@ fn try_change(
         none
     };
     let right = (of_verdict(before) == own) & (of_verdict(after) == new);
-    note(t, DAY, j, 0, told(0, true, true, right));
+    note(t, DAY, j, 0, answer_if(0, true, true, right));
     if (i < n) & (own != new) {
         add(t, CHANGED, 1);
         if new == ENDED {
@@ -298,7 +302,7 @@ fn try_admission(t: &mut Tally, case: Case, tasks: &[u32], jobs: &[u32]) {
         ADMIT,
         at(longer, n),
         refusal(key),
-        told(of_outcome(outcome), true, counted, true),
+        answer_if(of_outcome(outcome), true, counted, true),
     );
     let mut line = no_line();
     let ticks = ticks_of(key, h);
@@ -325,7 +329,7 @@ pub(crate) fn try_day(t: &mut Tally, case: Case, tasks: &[u32], jobs: &[u32]) {
         DAY,
         0,
         refusal(key),
-        told(of_outcome(outcome), lent, true, same),
+        answer_if(of_outcome(outcome), lent, true, same),
     );
     if key == FINE {
         try_jobs(t, case, tasks, jobs, rec, &own, end);

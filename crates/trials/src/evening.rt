@@ -11,9 +11,9 @@ use crate::tally::NO_RUNS;
 use batch::Batch;
 use drawn::answers::DONE;
 use drawn::answers::REFUSED;
+use drawn::answers::answer_if;
 use drawn::answers::mode_of;
 use drawn::answers::of_outcome;
-use drawn::answers::told;
 use drawn::damage::wrong_arrival;
 use drawn::damage::wrong_job;
 use drawn::damage::wrong_length;
@@ -244,7 +244,7 @@ fn try_single(
         BATCH_RUN,
         (r % 64) as u32,
         DONE,
-        told(of_outcome(outcome), lent, true, same),
+        answer_if(of_outcome(outcome), lent, true, same),
     );
 }
 
@@ -273,7 +273,7 @@ fn try_runs(
                 BLANK,
                 (r % 64) as u32,
                 DONE,
-                told(DONE, true, true, none),
+                answer_if(DONE, true, true, none),
             );
         }
     }
@@ -328,7 +328,7 @@ fn try_batch(
     let done = fault.answer == DONE;
     let kept = done | begin_alike(&line, &untouched, 16384);
     let named = got.run == fault.run;
-    let answer = told(of_outcome(outcome), kept, named, true);
+    let answer = answer_if(of_outcome(outcome), kept, named, true);
     note(t, BATCH, fault.run, fault.answer, answer);
     if done & (counts.len() == 0) {
         add(t, NO_RUNS, 1);

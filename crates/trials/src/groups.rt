@@ -7,6 +7,8 @@ use crate::evening::try_evening;
 use crate::others::try_others;
 use crate::parts::try_any;
 use crate::parts::try_parts;
+use crate::replays::to_replay;
+use crate::replays::try_replays;
 use crate::runs::count_ticks;
 use crate::runs::try_fresh;
 use crate::runs::try_run;
@@ -57,6 +59,10 @@ const EVENING: u32 = 8;
 
 const OTHERS: u32 = 9;
 
+const REPLAYS: u32 = 10;
+
+const KINDS: u32 = 11;
+
 fn title(kind: u32) {
     match kind {
         SMALL => text(b"small"),
@@ -68,7 +74,8 @@ fn title(kind: u32) {
         ALTERED_ALL_OVER => text(b"records altered all over"),
         PLANTER => text(b"days of the planter"),
         EVENING => text(b"evenings"),
-        _ => text(b"other people's jobs"),
+        OTHERS => text(b"other people's jobs"),
+        _ => text(b"replays"),
     }
 }
 
@@ -85,6 +92,9 @@ fn how_many(kind: u32) -> u32 {
 fn input_of(kind: u32, trial: u32, se: bool) -> Input {
     if kind == PLANTER {
         return a_day(trial, se);
+    }
+    if kind == REPLAYS {
+        return to_replay(trial, se);
     }
     let size = if kind == LONG {
         long(trial)
@@ -148,6 +158,8 @@ fn try_case(t: &mut Tally, kind: u32, case: Case, tasks: &[u32], jobs: &[u32]) {
         try_evening(t, case, tasks);
     } else if kind == OTHERS {
         try_others(t, case, tasks, jobs);
+    } else if kind == REPLAYS {
+        try_replays(t, case, tasks, jobs);
     } else {
         try_altered(t, case, tasks, jobs, kind == ALTERED_ALL_OVER);
     }
@@ -207,7 +219,7 @@ fn group(sum: &mut Tally, kind: u32, se: bool) {
 // Every group in both modes, and the sum of them all.
 pub(crate) fn all() {
     let mut sum = nothing();
-    for kind in 0..10 {
+    for kind in 0..KINDS {
         group(&mut sum, kind, false);
         group(&mut sum, kind, true);
     }

@@ -13,6 +13,7 @@ mod mends;
 mod others;
 mod parts;
 mod records;
+mod replays;
 mod runs;
 mod tally;
 

@@ -9,8 +9,8 @@ use crate::runs::begin_alike;
 use crate::tally::ENTRIES_CHANGED;
 use crate::tally::MEND;
 use crate::tally::MENDED_UNLIKE_OURS;
+use drawn::answers::answer_if;
 use drawn::answers::mode_of;
-use drawn::answers::told;
 use drawn::draw::draw;
 use drawn::judge::FINE;
 use drawn::judge::late;
@@ -122,7 +122,7 @@ pub(crate) fn try_mend(
         MEND,
         changed,
         claim_answer(key, replay.bad),
-        told(of_mended(mended), lent, counted, true),
+        answer_if(of_mended(mended), lent, counted, true),
     );
     add(t, ENTRIES_CHANGED, changed);
     if (key == FINE) & (replay.bad != 0) {

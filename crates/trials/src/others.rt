@@ -7,11 +7,11 @@ use crate::tally::DROPPED_UNLIKE;
 use crate::tally::MEMBER;
 use crate::tally::PREMISE_DROPPED;
 use drawn::answers::DONE;
+use drawn::answers::answer_if;
 use drawn::answers::mode_of;
 use drawn::answers::of_outcome;
 use drawn::answers::of_verdict;
 use drawn::answers::tie_of;
-use drawn::answers::told;
 use drawn::draw::draw;
 use drawn::list::ARRIVAL;
 use drawn::list::CRITICALITY;
@@ -156,7 +156,7 @@ fn compared(
     let q = second.places[(there % 64) as usize];
     let judged = of_verdict(one) == of_verdict(two);
     let both = same_place(p, q) & (less.outcome == DONE);
-    told(whole.outcome, ticks, judged, both)
+    answer_if(whole.outcome, ticks, judged, both)
 }
 
 // Every member's job in the run of the whole list and in that of the other. What made a difference is written with both.

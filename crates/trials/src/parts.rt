@@ -13,10 +13,10 @@ use crate::tally::GO_ON;
 use crate::tally::NO_TICK_ON;
 use crate::tally::PARTS;
 use drawn::answers::DONE;
+use drawn::answers::answer_if;
 use drawn::answers::mode_of;
 use drawn::answers::of_outcome;
 use drawn::answers::tie_of;
-use drawn::answers::told;
 use drawn::draw::draw;
 use drawn::judge::FINE;
 use drawn::judge::late;
@@ -153,7 +153,7 @@ fn try_go_on(
     let record = ran.record;
     let same = holds(record, held, end);
     let lent = alike_line(part_of_line(line, from, room), &own, 0);
-    let got = told(of_outcome(outcome), lent, true, same);
+    let got = answer_if(of_outcome(outcome), lent, true, same);
     note(t, GO_ON, rec.tick, refusal(key), got);
     if (key == FINE) & (ticks == 0) {
         add(t, NO_TICK_ON, 1);
@@ -223,5 +223,5 @@ pub(crate) fn try_parts(
     let lent = begin_alike(&line, own, ticks as usize);
     let same = same_record(rec, ran);
     add(t, PARTS + (n as usize) - 1, 1);
-    note(t, PARTS, n, DONE, told(DONE, lent, true, same));
+    note(t, PARTS, n, DONE, answer_if(DONE, lent, true, same));
 }

@@ -30,12 +30,12 @@ use drawn::answers::LOWEST;
 use drawn::answers::MET;
 use drawn::answers::OPEN;
 use drawn::answers::STAYING;
+use drawn::answers::answer_if;
 use drawn::answers::late_by;
 use drawn::answers::mode_of;
 use drawn::answers::of_outcome;
 use drawn::answers::of_verdict;
 use drawn::answers::tie_of;
-use drawn::answers::told;
 use drawn::judge::FINE;
 use drawn::judge::late;
 use drawn::judge::lists_key;
@@ -142,7 +142,7 @@ pub(crate) fn try_run(
     let record = ran.record;
     let same = holds(record, held, end);
     let lent = alike(front_of_line(&line, case.room), own, 0);
-    let got = told(of_outcome(outcome), lent, true, same);
+    let got = answer_if(of_outcome(outcome), lent, true, same);
     note(t, RUN, 0, refusal(key), got);
     record
 }
@@ -184,7 +184,7 @@ pub(crate) fn try_fresh(t: &mut Tally, tasks: &[u32], jobs: &[u32], stale: Recor
         FRESH,
         0,
         refusal(key),
-        told(of_outcome(outcome), true, true, same),
+        answer_if(of_outcome(outcome), true, true, same),
     );
     record
 }
@@ -197,7 +197,7 @@ fn step_told(got: Stepped, s: Sim, case: Case, tasks: &[u32], jobs: &[u32]) -> u
     let outcome = got.outcome;
     let record = got.record;
     let words = (got.ready == r.word) & (got.ones == r.ones) & (got.ended == next.cut);
-    told(
+    answer_if(
         of_outcome(outcome),
         got.entry == entry_of(x),
         words,
@@ -212,7 +212,7 @@ fn refused_told(got: Stepped) -> u64 {
     let none = [0u32; 1];
     let jobs = front(&none, 0);
     let blank = holds(record, jobs, begin(jobs));
-    told(of_outcome(outcome), got.entry == 0, words, blank)
+    answer_if(of_outcome(outcome), got.entry == 0, words, blank)
 }
 
 // What stood before a step: where the ways to choose differ, and what the job before has come to.
@@ -329,20 +329,37 @@ fn try_verdict(
     note(t, VERDICT, j, want, got);
 }
 
-// One of all verdicts.
-fn try_one(t: &mut Tally, tasks: &[u32], jobs: &[u32], s: Sim, key: u32, j: u32, got: Verdict) {
+// One of all verdicts, and whether the outcome told with them is right.
+fn try_one(
+    t: &mut Tally,
+    tasks: &[u32],
+    jobs: &[u32],
+    s: Sim,
+    key: u32,
+    j: u32,
+    got: Verdict,
+    told: bool,
+) {
     let want = verdict_due(key, tasks, jobs, s, j);
-    note(t, ALL_VERDICTS, j, want, of_verdict(got));
+    note(
+        t,
+        ALL_VERDICTS,
+        j,
+        want,
+        answer_if(of_verdict(got), true, told, true),
+    );
 }
 
 // All verdicts at once.
 fn try_all(t: &mut Tally, case: Case, tasks: &[u32], jobs: &[u32], rec: Record, key: u32) {
     let all = zsrm::verdicts(rec, mode_of(case.se), tasks, jobs);
     let s = taken_up(rec, jobs);
+    let outcome = all.outcome;
+    let told = of_outcome(outcome) == refusal(key);
     for j in 0..64 {
         let judged = all.of[j];
         let verdict = judged.verdict;
-        try_one(t, tasks, jobs, s, key, (j % 64) as u32, verdict);
+        try_one(t, tasks, jobs, s, key, (j % 64) as u32, verdict, told);
     }
 }
 

@@ -42,6 +42,10 @@ pub(crate) const MEND: usize = 1600;
 
 pub(crate) const MEMBER: usize = 1664;
 
+pub(crate) const REPLAY: usize = 1728;
+
+pub(crate) const DAY_REPLAY: usize = 1792;
+
 // What is counted beside the answers.
 pub(crate) const IDLE_TICKS: usize = 65;
 
@@ -76,6 +80,8 @@ pub(crate) const PREMISE_DROPPED: usize = 1665;
 pub(crate) const DROPPED_UNLIKE: usize = 1666;
 
 pub(crate) const UNLIKE_OURS: usize = 2;
+
+pub(crate) const OF_OUR_RUN: usize = 2;
 
 // Our run itself is claimed wherever anything is.
 fn claims(t: &Tally) {
@@ -174,6 +180,13 @@ pub(crate) fn report(t: &Tally) {
         t,
         b"  member's job the same beside fewer others; compared where others may be more critical, unlike:",
         MEMBER,
+        3,
+    );
+    line(t, b"  replay legal, not legal, of our run:", REPLAY, 3);
+    line(
+        t,
+        b"  planter's replay legal, not legal, of our run:",
+        DAY_REPLAY,
         3,
     );
 }

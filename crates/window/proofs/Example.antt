@@ -8,23 +8,25 @@ use lib.ListN.{getD, length}
 use Rattle.bits.specs.Below.{every, greatest, least, listFrom, some}
 use Rattle.tables.specs.Refusals.{ascending, before, check13, check2, check3, check4, check5, check6, check7, check8, checkJobs, checkLists, checkTasks, outside, preceding, refuse, unless}
 use Rattle.tables.specs.Said.{refused}
-use Rattle.tables.specs.Tables.{arrival, criticality, deadline, deadlineInstant, execution, jobCount, jobCriticality, jobNominal, jobPriority, nominal, offset, overload, period, priority, taskCount, taskOf, zeroSlackInstant}
+use Rattle.tables.specs.Tables.{arrival, criticality, deadline, deadlineInstant, execution, jobCount, jobCriticality, jobNominal, jobPriority}
+use Rattle.tables.specs.Tables.{nominal, offset, overload, period, priority, taskCount, taskOf, zeroSlackInstant}
 use Rattle.zsrm.specs.declared.answers.Verdict.{Verdict}
 use Rattle.zsrm.specs.declared.answers.Verdict.the-variants.{Ended, Late, Met}
 use Rattle.zsrm.specs.declared.mode.Mode.{Mode}
 use Rattle.zsrm.specs.declared.mode.Mode.the-variants.{S, SE}
 use Rattle.zsrm.specs.declared.record.Record.{Record}
 use Rattle.zsrm.specs.declared.tie.Tie.the-variants.{Lowest}
-use Rattle.zsrm.specs.Answers.{checkVerdict, verdictAnswer}
+use Rattle.zsrm.specs.Answers.{checkVerdict, checkVerdicts, verdictAnswer}
 use Rattle.zsrm.specs.Given.{given}
 use Rattle.zsrm.specs.Record.{arrived, arriving, check11, consistent, doneAt, fresh, freshPlace, opening, placeAt, soundAt, soundPrevious, standingAt, suspendedAt, waitedAt}
 use Rattle.zsrm.specs.Run.{entriesBy, finalBy, replay, runRecord}
-use Rattle.zsrm.specs.Tick.{advanced, alive, candidate, choice, doneAfter, eligible, ends, finishes, goesOn, higherPriority, keeps, lowest, moreCritical, over, pastZeroSlack, placeAfter, someJob, standingAfter, suspended, suspendedAfter, waitedAfter, waits}
+use Rattle.zsrm.specs.Tick.{advanced, alive, candidate, choice, doneAfter, eligible, ends, finishes, goesOn, higherPriority, keeps}
+use Rattle.zsrm.specs.Tick.{lowest, moreCritical, over, pastZeroSlack, placeAfter, someJob, standingAfter, suspended, suspendedAfter, waitedAfter, waits}
 use Rattle.zsrm.specs.Verdict.{verdict}
 use Rattle.window.specs.Answers.{judgeAnswer}
 use Rattle.window.specs.Refusals.{check19, check20, checkJudge}
-use Rattle.window.specs.Said.{failing, passing, windowsSaid}
-use Rattle.window.specs.Windows.{activations, fails, firstFailing, howMany, jobsBelow, judged, misses, opens, verdictsOn, window, windowCount}
+use Rattle.window.specs.Said.{oneFails, allPass, windowsSaid}
+use Rattle.window.specs.Windows.{activations, fails, firstFailing, howMany, jobsBelow, windowsOf, misses, opens, verdictsOn, window, windowCount}
 
 abbrev tasks : List ℕ
 tasks = 8 ∷ 8 ∷ 4 ∷ 4 ∷ 1 ∷ 2 ∷ 4 ∷ 20 ∷ 16 ∷ 5 ∷ 10 ∷ 2 ∷ 1 ∷ 10 ∷ []
@@ -55,18 +57,18 @@ expected (gives mode list ranIn horizon task m k t) = t
 -- the overload time.
 abbrev table : List Row
 table =
-    gives SE (seeds 10) SE 48 0 1 7 (passing 0)
-    ∷ gives SE (seeds 10) SE 48 0 1 4 (failing 2 2 0)
-    ∷ gives S (seeds 10) S 48 0 1 4 (failing 2 2 0)
-    ∷ gives SE (seeds 10) SE 48 0 0 4 (failing 0 1 0)
-    ∷ gives SE (seeds 10) SE 48 0 2 4 (passing 0)
-    ∷ gives SE (seeds 10) SE 48 0 1 3 (passing 0)
-    ∷ gives SE (seeds 5) SE 48 0 1 4 (passing 0)
-    ∷ gives SE (seeds 10) SE 32 0 1 4 (passing 2)
-    ∷ gives SE (seeds 10) SE 32 0 0 6 (failing 0 1 2)
-    ∷ gives SE (seeds 10) SE 48 0 0 6 (failing 0 2 0)
-    ∷ gives SE (seeds 10) SE 48 1 0 2 (passing 0)
-    ∷ gives SE [] SE 48 0 0 1 (passing 0)
+    gives SE (seeds 10) SE 48 0 1 7 (allPass 0)
+    ∷ gives SE (seeds 10) SE 48 0 1 4 (oneFails 2 2 0)
+    ∷ gives S (seeds 10) S 48 0 1 4 (oneFails 2 2 0)
+    ∷ gives SE (seeds 10) SE 48 0 0 4 (oneFails 0 1 0)
+    ∷ gives SE (seeds 10) SE 48 0 2 4 (allPass 0)
+    ∷ gives SE (seeds 10) SE 48 0 1 3 (allPass 0)
+    ∷ gives SE (seeds 5) SE 48 0 1 4 (allPass 0)
+    ∷ gives SE (seeds 10) SE 32 0 1 4 (allPass 2)
+    ∷ gives SE (seeds 10) SE 32 0 0 6 (oneFails 0 1 2)
+    ∷ gives SE (seeds 10) SE 48 0 0 6 (oneFails 0 2 0)
+    ∷ gives SE (seeds 10) SE 48 1 0 2 (allPass 0)
+    ∷ gives SE [] SE 48 0 0 1 (allPass 0)
     ∷ gives SE (seeds 10) SE 48 0 0 0 (refused 19 0)
     ∷ gives SE (seeds 10) SE 48 0 1 65 (refused 19 0)
     ∷ gives SE (seeds 10) SE 48 2 5 4 (refused 19 0)
@@ -81,7 +83,13 @@ verdictsIn mode = verdictsOn (given mode tasks (seeds 10)) (ran mode (seeds 10) 
 
 pub examples : (map answered table ≡ map expected table)
     × (verdictsIn S ≡ Met ∷ Late 2 true ∷ Met ∷ Met ∷ Late 2 true ∷ Met ∷ []) × (verdictsIn SE ≡ Met ∷ Ended ∷ Met ∷ Met ∷ Ended ∷ Met ∷ [])
-unfolding some every least greatest listFrom taskCount period deadline nominal overload criticality priority offset jobCount taskOf arrival execution jobCriticality jobPriority jobNominal zeroSlackInstant deadlineInstant refuse before ascending outside check2 check3 check4 checkTasks check5 preceding check6 check7 check8 checkJobs checkLists check11 check13 placeAt doneAt suspendedAt waitedAt standingAt arriving arrived opening freshPlace fresh soundAt soundPrevious consistent alive someJob moreCritical higherPriority pastZeroSlack suspended eligible candidate lowest keeps choice doneAfter over ends finishes suspendedAfter waits waitedAfter goesOn standingAfter placeAfter advanced replay entriesBy finalBy runRecord verdict unless checkVerdict verdictAnswer jobsBelow activations verdictsOn howMany misses opens window windowCount fails firstFailing judged check19 check20 checkJudge judgeAnswer windowsSaid
+unfolding some every least greatest listFrom taskCount period deadline nominal overload criticality priority offset jobCount taskOf arrival execution
+    jobCriticality jobPriority jobNominal zeroSlackInstant deadlineInstant refuse before ascending outside check2 check3 check4 checkTasks check5
+    preceding check6 check7 check8 checkJobs checkLists check11 check13 placeAt doneAt suspendedAt waitedAt standingAt arriving arrived opening
+    freshPlace fresh soundAt soundPrevious consistent alive someJob moreCritical higherPriority pastZeroSlack suspended eligible candidate lowest
+    keeps choice doneAfter over ends finishes suspendedAfter waits waitedAfter goesOn standingAfter placeAfter advanced replay entriesBy finalBy
+    runRecord verdict unless checkVerdict verdictAnswer jobsBelow activations verdictsOn howMany misses opens window windowCount fails firstFailing
+    windowsOf check19 check20 checkVerdicts checkJudge judgeAnswer windowsSaid
 examples = (refl, refl, refl)
 
 -- the n-th row
@@ -91,7 +99,7 @@ row n = ap (λ (l : List (List ℕ)). getD l n []) (examples .0)
 -- A smaller K may turn a pass into a failure where the task has fewer than the larger K jobs: of these six seeds (1, 7) passes, as there is
 -- no window of seven, and (1, 4) fails.
 pub smaller-window-fails : (length (activations (seeds 10) 0) ≡ 6)
-    × (windowsSaid (judgeAnswer (given SE tasks (seeds 10)) (ran SE (seeds 10) 48) 0 1 7) ≡ passing 0)
-    × (windowsSaid (judgeAnswer (given SE tasks (seeds 10)) (ran SE (seeds 10) 48) 0 1 4) ≡ failing 2 2 0)
+    × (windowsSaid (judgeAnswer (given SE tasks (seeds 10)) (ran SE (seeds 10) 48) 0 1 7) ≡ allPass 0)
+    × (windowsSaid (judgeAnswer (given SE tasks (seeds 10)) (ran SE (seeds 10) 48) 0 1 4) ≡ oneFails 2 2 0)
 unfolding activations jobsBelow jobCount taskOf
 smaller-window-fails = (refl, row 0, row 1)

@@ -1,7 +1,7 @@
 -- The promises of deadline misses over a window, for every input. Read this file first.
 --
 -- `judgeAnswer g r task m k` is what `judge` answers, its whole contract: g is the mode, the tasks and the jobs, r the record, (m, k) the
--- pair. `windowsSaid` says an answer in numbers, and Said gives each its name: `refused number place`, `passing n` and `failing job count n`,
+-- pair. `windowsSaid` says an answer in numbers, and Said gives each its name: `refused number place`, `allPass n` and `oneFails job count n`,
 -- n being the number of open jobs. `checkJudge` is what is checked, in the order of the numbers; `Pair m k` is what 19 asks for: 0 < k,
 -- k ≤ 64 and m ≤ k. `activations jobs task` are the task's jobs by their numbers, `verdictsOn g r task` what the library's `verdict` answers
 -- for them in the same order, `window vs k i` is k of these from the i-th on, `misses` how many are missed, `opens` how many are open
@@ -18,12 +18,13 @@ use native.Mathlib.Omega.{arith}
 use lib.Dec.{eqb}
 use lib.ListN.{List·getD-map, getD, length, length-map}
 use Rattle.bits.specs.Below.{count}
-use Rattle.tables.specs.declared.outcome.Outcome.{Outcome}
-use Rattle.tables.specs.declared.outcome.Outcome.the-variants.{Done, Refused}
+use Rattle.bits.proofs.Laws.Bools.{apart}
+use Rattle.tables.specs.declared.answers.Outcome.the-variants.{Done, Refused}
 use Rattle.tables.specs.Refusals.{checkLists}
 use Rattle.tables.specs.Said.{done, outcomeSaid, refused}
 use Rattle.tables.specs.Tables.{jobCount, taskCount, taskOf}
-use Rattle.tables.proofs.Laws.Said.{outcome-said}
+use Rattle.tables.proofs.Laws.Said.{outcome-said, refusal-exactly, said-done, said-refused}
+use Rattle.tables.proofs.Laws.Refusals as refusals
 use Rattle.zsrm.specs.declared.answers.Verdict.{Verdict}
 use Rattle.zsrm.specs.declared.answers.Verdict.the-variants as verdicts
 use Rattle.zsrm.specs.declared.record.Record.{Record}
@@ -34,23 +35,23 @@ use Rattle.zsrm.specs.Run.{replay, replayed}
 use Rattle.zsrm.specs.Said.{claimSaid, ended, late, legal, verdictSaid}
 use Rattle.zsrm.specs.Verdict.{isOpen, missed}
 use Rattle.zsrm.proofs.Laws.Answers.{is-legal}
-use Rattle.zsrm.proofs.Laws.Run.{replay-append}
 use Rattle.zsrm.proofs.Laws.Said.{verdict-said}
-use Rattle.zsrm.proofs.Laws.Verdicts.{replayed-consistent}
+use Rattle.zsrm.proofs.Laws.Consistent.{replayed-consistent}
 use Rattle.zsrm.proofs.Promise.{verdict-refused}
-use Rattle.window.specs.declared.windows.Windows.{Windows}
-use Rattle.window.specs.declared.windows.Windows.the-variants as windows
+use Rattle.window.specs.declared.answers.Windows.{Windows}
+use Rattle.window.specs.declared.answers.Windows.the-variants as windows
 use Rattle.window.specs.Answers.{judgeAnswer}
 use Rattle.window.specs.Refusals.{checkJudge}
-use Rattle.window.specs.Said.{failing, passing, windowsSaid}
-use Rattle.window.specs.Windows.{activations, judged, misses, opens, verdictsOn, window}
-use Rattle.window.proofs.Laws.Answers.{answer-done, answer-refused}
+use Rattle.window.specs.Said.{oneFails, allPass, windowsSaid}
+use Rattle.window.specs.Windows.{activations, windowsOf, misses, opens, verdictsOn, window}
+use Rattle.window.proofs.Laws.Answers.{answer-done}
 use Rattle.window.proofs.Laws.Jobs.{own-all, own-each, own-many, own-order}
 use Rattle.window.proofs.Laws.Later.{Later, judged-final, judged-stays, verdicts-later}
 use Rattle.window.proofs.Laws.Refusals.{Pair, accepted-exactly, lists-only, lists-refuse, pair-refuses, record-refuses, task-refuses, verdict-refuses}
 use Rattle.window.proofs.Laws.Said.{windows-said}
 use Rattle.window.proofs.Laws.Windows.{fails-reads, holds-shorter, never-refused, passes-reads}
-use Rattle.zsrm.proofs.Readings.{apart, missed-reads}
+use Rattle.zsrm.proofs.Readings.{missed-reads}
+use Rattle.zsrm.proofs.Laws.Replay.{replay-append}
 
 -- ## The words
 
@@ -108,22 +109,15 @@ module _ (g : Given) (r : Record) (task : ℕ) where
     checks = outcomeSaid (checkJudge g r task m k)
 
     passed : checks ≡ done → checkJudge g r task m k ≡ Done
-    unfolding outcomeSaid
-    passed ok = outcome-said (checkJudge g r task m k) Done ok
+    passed = said-done (checkJudge g r task m k) .0
 
     -- ## Refusals
 
     -- `judge` is refused exactly where its checks refuse, and then with their number and place.
     pub refused-exactly : (number place : ℕ) → said ≡ refused number place ↔ checks ≡ refused number place
-    unfolding windowsSaid outcomeSaid
-    refused-exactly number place = (
-      λ e. go (checkJudge g r task m k) refl (windows-said (judgeAnswer g r task m k) (windows.Refused number place) e),
-      λ e. ap windowsSaid (answer-refused g r task m k number place (outcome-said (checkJudge g r task m k) (Refused number place) e)),
-    )
-      where
-        go : (o : Outcome) → checkJudge g r task m k ≡ o → judgeAnswer g r task m k ≡ windows.Refused number place → outcomeSaid o ≡ refused number place
-        go Done q e = absurd (never-refused own vs m k number place (sym (answer-done g r task m k q) ∙ e))
-        go (Refused n p) q e = let z = answer-refused g r task m k n p q in cc
+    unfolding windowsSaid judgeAnswer
+    refused-exactly number place =
+        refusal-exactly windowsSaid windows-said windows.Refused (λ n p x y e. cc) (λ n p. refl) (windowsOf own vs m k) (never-refused own vs m k) (checkJudge g r task m k) number place
 
     -- They pass exactly where the lists are accepted, the record is consistent, the pair is one, and the task is in the table.
     pub done-exactly : checks ≡ done ↔ (outcomeSaid (checkLists (g .lists)) ≡ done) × (consistent g r ≡ true) × Pair m k × (task < taskCount (g .lists .tasks))
@@ -136,13 +130,10 @@ module _ (g : Given) (r : Record) (task : ℕ) where
 
     -- what a refusal of the checks says, in numbers
     refused-by : (number place : ℕ) → said ≡ refused number place ↔ checkJudge g r task m k ≡ Refused number place
-    unfolding outcomeSaid
-    refused-by number place =
-        Iff·trans (refused-exactly number place) (outcome-said (checkJudge g r task m k) (Refused number place), ap outcomeSaid)
+    refused-by number place = Iff·trans (refused-exactly number place) (said-refused (checkJudge g r task m k) number place)
 
     lists-done : outcomeSaid (checkLists (g .lists)) ≡ done ↔ checkLists (g .lists) ≡ Done
-    unfolding outcomeSaid
-    lists-done = (outcome-said (checkLists (g .lists)) Done, ap outcomeSaid)
+    lists-done = said-done (checkLists (g .lists))
 
     -- First comes what the lists are refused with, 2 to 8 ..
     pub lists-first : (number place : ℕ) → outcomeSaid (checkLists (g .lists)) ≡ refused number place → said ≡ refused number place
@@ -154,24 +145,24 @@ module _ (g : Given) (r : Record) (task : ℕ) where
     lists-exactly number place l = (λ e. ap outcomeSaid (lists-only g r task m k number place (omega arith) (refused-by number place .0 e)), lists-first number place)
 
     -- .. then 11, exactly where the record is not consistent ..
-    pub eleven : said ≡ refused 11 0 ↔ (outcomeSaid (checkLists (g .lists)) ≡ done) × (consistent g r ≡ false)
-    eleven =
+    pub inconsistent-exactly : said ≡ refused 11 0 ↔ (outcomeSaid (checkLists (g .lists)) ≡ done) × (consistent g r ≡ false)
+    inconsistent-exactly =
         Iff·trans (refused-by 11 0) (
           λ e. let w = record-refuses g r task m k .0 e in (lists-done .1 (w .0), w .1),
           λ w. record-refuses g r task m k .1 (lists-done .0 (w .0), w .1),
         )
 
     -- .. then 19, exactly where the pair is none, whatever the task ..
-    pub nineteen : said ≡ refused 19 0 ↔ (outcomeSaid (checkLists (g .lists)) ≡ done) × (consistent g r ≡ true) × (Pair m k → ⊥)
-    nineteen =
+    pub no-pair-exactly : said ≡ refused 19 0 ↔ (outcomeSaid (checkLists (g .lists)) ≡ done) × (consistent g r ≡ true) × (Pair m k → ⊥)
+    no-pair-exactly =
         Iff·trans (refused-by 19 0) (
           λ e. let w = pair-refuses g r task m k .0 e in (lists-done .1 (w .0), w .1, w .2),
           λ w. pair-refuses g r task m k .1 (lists-done .0 (w .0), w .1, w .2),
         )
 
     -- .. and last 20, exactly where the task is not in the table.
-    pub twenty : said ≡ refused 20 0 ↔ (outcomeSaid (checkLists (g .lists)) ≡ done) × (consistent g r ≡ true) × Pair m k × (taskCount (g .lists .tasks) ≤ task)
-    twenty =
+    pub no-task-exactly : said ≡ refused 20 0 ↔ (outcomeSaid (checkLists (g .lists)) ≡ done) × (consistent g r ≡ true) × Pair m k × (taskCount (g .lists .tasks) ≤ task)
+    no-task-exactly =
         Iff·trans (refused-by 20 0) (
           λ e. let w = task-refuses g r task m k .0 e in (lists-done .1 (w .0), w .1, w .2, w .3),
           λ w. task-refuses g r task m k .1 (lists-done .0 (w .0), w .1, w .2, w .3),
@@ -186,23 +177,19 @@ module _ (g : Given) (r : Record) (task : ℕ) where
     -- ## Windows
 
     -- an answer that is no refusal is given where nothing is refused
-    answered : (x : Windows) → ((number place : ℕ) → x ≡ windows.Refused number place → ⊥) → said ≡ windowsSaid x ↔ (checks ≡ done) × (judged own vs m k ≡ x)
-    unfolding outcomeSaid
-    answered x proper = (
-      λ e. go (checkJudge g r task m k) refl (windows-said (judgeAnswer g r task m k) x e),
-      λ w. ap windowsSaid (answer-done g r task m k (passed (w .0)) ∙ w .1),
-    )
-      where
-        go : (o : Outcome) → checkJudge g r task m k ≡ o → judgeAnswer g r task m k ≡ x → (checks ≡ done) × (judged own vs m k ≡ x)
-        go Done q e = (ap outcomeSaid q, sym (answer-done g r task m k q) ∙ e)
-        go (Refused n p) q e = absurd (proper n p (sym e ∙ answer-refused g r task m k n p q))
+    answered : (x : Windows) → ((number place : ℕ) → x ≡ windows.Refused number place → ⊥) → said ≡ windowsSaid x ↔ (checks ≡ done) × (windowsOf own vs m k ≡ x)
+    unfolding judgeAnswer
+    answered x proper =
+        Iff·trans (windows-said (judgeAnswer g r task m k) x, ap windowsSaid)
+        (Iff·trans (refusals.answered windows.Refused (windowsOf own vs m k) x (λ n p e. proper n p (sym e)) (checkJudge g r task m k))
+        (λ w. (said-done (checkJudge g r task m k) .1 (w .0), w .1), λ w. (said-done (checkJudge g r task m k) .0 (w .0), w .1)))
 
-    fails-answered : (job number n : ℕ) → said ≡ failing job number n ↔ (checks ≡ done) × (judged own vs m k ≡ windows.Fails job number n)
+    fails-answered : (job number n : ℕ) → said ≡ oneFails job number n ↔ (checks ≡ done) × (windowsOf own vs m k ≡ windows.Fails job number n)
     unfolding windowsSaid
     fails-answered job number n = answered (windows.Fails job number n) (λ x y e. apart (cc))
 
     -- It passes exactly where every k consecutive of the task's jobs contain at most m misses; the answer has the number of open jobs.
-    pub passes-exactly : (n : ℕ) → said ≡ passing n ↔ (checks ≡ done) × ((i : ℕ) → i + k ≤ length own → misses (window vs k i) ≤ m) × (n ≡ opens vs)
+    pub passes-exactly : (n : ℕ) → said ≡ allPass n ↔ (checks ≡ done) × ((i : ℕ) → i + k ≤ length own → misses (window vs k i) ≤ m) × (n ≡ opens vs)
     unfolding windowsSaid
     passes-exactly n =
         let reads = passes-reads own vs m k n in
@@ -221,23 +208,35 @@ module _ (g : Given) (r : Record) (task : ℕ) where
       pub earlier : (e : ℕ) → e < i → misses (window vs k e) ≤ m
       pub open-jobs : n ≡ opens vs
 
-    pub fails-exactly : (job number n : ℕ) → said ≡ failing job number n ↔ (checks ≡ done) × ((i : ℕ) × FirstFails i job number n)
+    pub fails-exactly : (job number n : ℕ) → said ≡ oneFails job number n ↔ (checks ≡ done) × ((i : ℕ) × FirstFails i job number n)
     fails-exactly job number n =
         let reads = fails-reads own vs m k job number n in
         Iff·trans (fails-answered job number n) (
-          λ w. let f = reads .0 (w .1) in
-              (w .0, (f .0, record { there = omega (arith, f .1 .there, own-verdicts); named = f .2; counted = f .3; over = omega (arith, f .1 .over, f .3); earlier = f .1 .earlier; open-jobs = f .4 })),
+          λ w. let f = reads .0 (w .1) in (
+            w .0,
+            (
+              f .0,
+              record {
+                there = omega (arith, f .1 .there, own-verdicts);
+                named = f .2;
+                counted = f .3;
+                over = omega (arith, f .1 .over, f .3);
+                earlier = f .1 .earlier;
+                open-jobs = f .4;
+              },
+            ),
+          ),
           λ w. let f = w .1 .1 in
               (w .0, reads .1 (w .1 .0, record { there = omega (arith, f .there, own-verdicts); over = omega (arith, f .over, f .counted); earlier = f .earlier }, f .named, f .counted, f .open-jobs)),
         )
 
     -- Fewer than k jobs pass.
-    pub few-pass : checks ≡ done → length own < k → said ≡ passing (opens vs)
+    pub few-pass : checks ≡ done → length own < k → said ≡ allPass (opens vs)
     few-pass ok few = passes-exactly (opens vs) .1 (ok, λ i l. absurd (omega arith), refl)
 
 -- ## From one pair to another
 
-module _ (g : Given) (r : Record) (task m k n : ℕ) (passes : said g r task m k ≡ passing n) where
+module _ (g : Given) (r : Record) (task m k n : ℕ) (passes : said g r task m k ≡ allPass n) where
   -- another pair that is accepted, with the same lists, record and task
   other : (m′ k′ : ℕ) → Pair m′ k′ → checks g r task m′ k′ ≡ done
   other m′ k′ pair =
@@ -245,13 +244,13 @@ module _ (g : Given) (r : Record) (task m k n : ℕ) (passes : said g r task m k
       done-exactly g r task m′ k′ .1 (w .0, w .1, pair, w .3)
 
   -- Raising m never turns a pass into a failure, where the new pair is accepted ..
-  pub more-misses : (m′ : ℕ) → m ≤ m′ → Pair m′ k → said g r task m′ k ≡ passing n
+  pub more-misses : (m′ : ℕ) → m ≤ m′ → Pair m′ k → said g r task m′ k ≡ allPass n
   more-misses m′ more pair =
       let w = passes-exactly g r task m k n .0 passes in
       passes-exactly g r task m′ k n .1 (other m′ k pair, λ i l. omega (arith, w .1 i l), w .2)
 
   -- .. nor does a smaller k, where the task has at least the larger k jobs, and the new pair is accepted.
-  pub smaller-window : (k′ : ℕ) → k′ ≤ k → k ≤ length (own g r task) → Pair m k′ → said g r task m k′ ≡ passing n
+  pub smaller-window : (k′ : ℕ) → k′ ≤ k → k ≤ length (own g r task) → Pair m k′ → said g r task m k′ ≡ allPass n
   smaller-window k′ less enough pair =
       let same = own-verdicts g r task in
       let w = passes-exactly g r task m k n .0 passes in
@@ -271,8 +270,8 @@ module _ (g : Given) (r : Record) (task m k : ℕ) (entries : List ℕ) (sound :
   onward ok = let a = accepted-exactly g r task m k .0 (passed g r task m k ok) in verdicts-later g (a .lists) task r (a .sound) entries sound
 
   -- A failure stays one, with the same job: its count never falls, and the open jobs never become more ..
-  pub failing-stays : (job number n : ℕ) → said g r task m k ≡ failing job number n
-      → (number′ : ℕ) × (n′ : ℕ) × (said g (replay g r entries) task m k ≡ failing job number′ n′) × (number ≤ number′) × (n′ ≤ n)
+  pub failing-stays : (job number n : ℕ) → said g r task m k ≡ oneFails job number n
+      → (number′ : ℕ) × (n′ : ℕ) × (said g (replay g r entries) task m k ≡ oneFails job number′ n′) × (number ≤ number′) × (n′ ≤ n)
   failing-stays job number n says =
       let w = fails-answered g r task m k job number n .0 says in
       let x = judged-stays _ _ _ _ (onward (w .0)) (own g r task) m k job number n (w .1) in
@@ -299,8 +298,8 @@ module _ (g : Given) (horizon : ℕ) (schedule more : List ℕ) (ok : claimSaid 
       subst (λ (r : Record). consistent g r ≡ true) together (replayed-consistent g (schedule ++ more) (omega (arith, a .bounded, a .whole)) (c .legal))
 
   -- A failure at the schedule's end is one at the end of both, with the same job ..
-  pub legal-failing-stays : (job number n : ℕ) → said g (replayed g schedule) task m k ≡ failing job number n
-      → (number′ : ℕ) × (n′ : ℕ) × (said g (replayed g (schedule ++ more)) task m k ≡ failing job number′ n′) × (number ≤ number′) × (n′ ≤ n)
+  pub legal-failing-stays : (job number n : ℕ) → said g (replayed g schedule) task m k ≡ oneFails job number n
+      → (number′ : ℕ) × (n′ : ℕ) × (said g (replayed g (schedule ++ more)) task m k ≡ oneFails job number′ n′) × (number ≤ number′) × (n′ ≤ n)
   legal-failing-stays job number n says = rw together (failing-stays g (replayed g schedule) task m k more at-end job number n says)
 
   -- .. and with no open job at the schedule's end the answer there is the answer at the end of both.

@@ -3,12 +3,12 @@ use Prim.Native.Nat.{ℕ}
 use mathlib.Core.Bool.{not, _||_}
 use mathlib.Core.List.{List}
 use lib.Dec.{eqb, ltb}
-use Rattle.tables.specs.declared.outcome.Outcome.{Outcome}
-use Rattle.tables.specs.Refusals.{before, checkLists, refuse}
+use Rattle.tables.specs.declared.answers.Outcome.{Outcome}
+use Rattle.tables.specs.Refusals.{before, refuse}
 use Rattle.tables.specs.Tables.{taskCount}
 use Rattle.zsrm.specs.declared.record.Record.{Record}
+use Rattle.zsrm.specs.Answers.{checkVerdicts}
 use Rattle.zsrm.specs.Given.{Given}
-use Rattle.zsrm.specs.Record.{check11, consistent}
 
 -- 19: K = 0, K over 64 or m > K
 unfoldable pub check19 : ℕ → ℕ → Outcome
@@ -20,5 +20,4 @@ check20 tasks task = refuse (not (ltb task (taskCount tasks))) 20 0
 
 -- 19 first, both after 13, which is not given here: no job is named
 unfoldable pub checkJudge : Given → Record → ℕ → ℕ → ℕ → Outcome
-checkJudge g r task m k =
-    before (checkLists (g .lists)) (before (check11 (consistent g r)) (before (check19 m k) (check20 (g .lists .tasks) task)))
+checkJudge g r task m k = before (checkVerdicts g r) (before (check19 m k) (check20 (g .lists .tasks) task))

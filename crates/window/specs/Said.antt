@@ -3,18 +3,18 @@
 use Prim.Native.Nat.{ℕ}
 use mathlib.Core.List.{List, [], _∷_}
 use Rattle.tables.specs.Said.{refused}
-use Rattle.window.specs.declared.windows.Windows.{Windows}
-use Rattle.window.specs.declared.windows.Windows.the-variants.{Fails, Passes, Refused}
+use Rattle.window.specs.declared.answers.Windows.{Windows}
+use Rattle.window.specs.declared.answers.Windows.the-variants.{Fails, Passes, Refused}
 
 -- all windows pass; how many jobs are open
-abbrev pub passing : ℕ → List ℕ
-passing opens = opens ∷ []
+abbrev pub allPass : ℕ → List ℕ
+allPass opens = opens ∷ []
 
 -- the first window that fails: its first job's number and its misses; how many jobs are open
-abbrev pub failing : ℕ → ℕ → ℕ → List ℕ
-failing job count opens = job ∷ count ∷ opens ∷ []
+abbrev pub oneFails : ℕ → ℕ → ℕ → List ℕ
+oneFails job count opens = job ∷ count ∷ opens ∷ []
 
 unfoldable pub windowsSaid : Windows → List ℕ
 windowsSaid (Refused number place) = refused number place
-windowsSaid (Passes opens) = passing opens
-windowsSaid (Fails job count opens) = failing job count opens
+windowsSaid (Passes opens) = allPass opens
+windowsSaid (Fails job count opens) = oneFails job count opens

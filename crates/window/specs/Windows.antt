@@ -13,8 +13,8 @@ use Rattle.zsrm.specs.Answers.{verdictAnswer}
 use Rattle.zsrm.specs.Given.{Given}
 use Rattle.zsrm.specs.Verdict.{missed}
 use Rattle.zsrm.specs.Verdict.{isOpen}
-use Rattle.window.specs.declared.windows.Windows.{Windows}
-use Rattle.window.specs.declared.windows.Windows.the-variants.{Fails, Passes}
+use Rattle.window.specs.declared.answers.Windows.{Windows}
+use Rattle.window.specs.declared.answers.Windows.the-variants.{Fails, Passes}
 
 -- the task's jobs among the first n of the list, by their numbers, in the list's order
 unfoldable pub jobsBelow : List ℕ → ℕ → ℕ → List ℕ
@@ -61,6 +61,6 @@ module _ (vs : List Verdict) (m k : ℕ) where
   firstFailing = least (windowCount vs k) fails (windowCount vs k)
 
 -- The first window that fails, by its first job's number, with its count; else all pass. Either with the number of open jobs.
-unfoldable pub judged : List ℕ → List Verdict → ℕ → ℕ → Windows
-judged own vs m k =
+unfoldable pub windowsOf : List ℕ → List Verdict → ℕ → ℕ → Windows
+windowsOf own vs m k =
     cond (ltb (firstFailing vs m k) (windowCount vs k)) (Fails (getD own (firstFailing vs m k) 0) (misses (window vs k (firstFailing vs m k))) (opens vs)) (Passes (opens vs))

@@ -4,9 +4,11 @@ ghost use mathlib.Core.List.{[], map};
 ghost use mathlib.Core.Path.{_≡_};
 ghost use Prim.Native.Nat.{_≤_};
 ghost use Rattle.tables.specs.Tables.{jobCount};
+ghost use Rattle.zsrm.specs.Answers.{verdictOf};
 ghost use Rattle.zsrm.specs.Verdict.{isOpen, missed};
 ghost use Rattle.window.specs.Windows.{activations};
-ghost use Rattle.window.specs.Code.{GatheredAs, Room, verdictIn, withJob};
+ghost use Rattle.window.specs.Code.{GatheredAs, RoomForJob, withJob};
+use bits::one_if;
 use tables::job_at;
 use tables::job_count;
 use zsrm::Verdict;
@@ -46,15 +48,8 @@ fn is_open(verdict: Verdict) -> bool
     }
 }
 
-// One where the test passes.
-fn one_if(test: bool) -> u32
-    ensures { λ r. ⌜ r ≡ cond test 1 0 ⌝ }
-{
-    if test { 1 } else { 0 }
-}
-
 // No job.
-fn none() -> Gathered
+fn none_gathered() -> Gathered
     ensures { λ r. ⌜ GatheredAs [] [] r ⌝ }
 {
     Gathered {
@@ -67,7 +62,7 @@ fn none() -> Gathered
 
 // One job more, where it is the task's.
 fn with_job_if(own: Gathered, test: bool, j: u32, verdict: Verdict) -> Gathered
-    requires { ⌜ Room own ⌝ }
+    requires { ⌜ RoomForJob own ⌝ }
     ensures { λ r. ⌜ r ≡ cond test (withJob own j verdict) own ⌝ }
 {
     if test {
@@ -88,10 +83,10 @@ fn with_job_if(own: Gathered, test: bool, j: u32, verdict: Verdict) -> Gathered
 // The task's jobs, with their verdicts.
 pub(crate) fn gather(all: Verdicts, jobs: &[u32], task: u32) -> Gathered
     requires { ⌜ jobCount (now jobs) ≤ 64 ⌝ }
-    ensures { λ r. ⌜ GatheredAs (activations (now (jobs .entry)) task) (map (verdictIn all) (activations (now (jobs .entry)) task)) r ⌝ }
+    ensures { λ r. ⌜ GatheredAs (activations (now (jobs .entry)) task) (map (verdictOf all) (activations (now (jobs .entry)) task)) r ⌝ }
 {
     let n = job_count(jobs);
-    let mut own = none();
+    let mut own = none_gathered();
     let mut j: usize = 0;
     while j < n {
         let judged = all.of[j];

@@ -5,17 +5,18 @@ ghost use Rattle.zsrm.specs.Given.{given};
 ghost use Rattle.window.specs.Answers.{judgeAnswer};
 use jobs::gather;
 use refusals::check_judge;
-use windows::told;
+use windows::windows_from;
 use zsrm::Mode;
 use zsrm::Outcome;
 use zsrm::Record;
 use zsrm::verdicts;
 
+mod answers;
 mod jobs;
 mod refusals;
 mod windows;
 
-pub use windows::Windows;
+pub use answers::Windows;
 
 // From a consistent record, such as a run returns: whether every window of k consecutive jobs of the task contains at most m misses, or the
 // first that does not, and how many of its jobs are open; refusals 2 to 8, 11, 19, 20.
@@ -31,9 +32,10 @@ pub fn judge(
     ensures { λ r. ⌜ r ≡ judgeAnswer (given mode (now (tasks .entry)) (now (jobs .entry))) rec task m k ⌝ }
 {
     let all = verdicts(rec, mode, tasks, jobs);
-    let checked = check_judge(all, tasks, task, m, k);
+    let judged = all.outcome;
+    let checked = check_judge(judged, tasks, task, m, k);
     match checked {
-        Outcome::Done => told(gather(all, jobs, task), m, k as usize),
+        Outcome::Done => windows_from(gather(all, jobs, task), m, k as usize),
         Outcome::Refused(number, place) => Windows::Refused(number, place),
     }
 }

@@ -1,25 +1,10 @@
 // Request Twelve's refusals, 19 and 20, after those that the verdicts meet.
 ghost use mathlib.Core.Path.{_≡_};
+ghost use Rattle.tables.specs.Refusals.{before};
 ghost use Rattle.window.specs.Refusals.{check19, check20};
-ghost use Rattle.window.specs.Code.{checkAll, refusedBy};
 use tables::before;
 use tables::refuse;
 use zsrm::Outcome;
-use zsrm::Verdict;
-use zsrm::Verdicts;
-
-// What a verdict is refused with, but for 13, which is about the job named.
-fn refused_by(verdict: Verdict) -> Outcome
-    ensures { λ r. ⌜ r ≡ refusedBy verdict ⌝ }
-{
-    match verdict {
-        Verdict::Refused(number, place) => refuse(number != 13, number, place),
-        Verdict::Met => Outcome::Done,
-        Verdict::Late(_, _) => Outcome::Done,
-        Verdict::Ended => Outcome::Done,
-        Verdict::Open => Outcome::Done,
-    }
-}
 
 // 19: K = 0, K over 64 or m > K.
 fn check19(m: u32, k: u32) -> Outcome
@@ -36,14 +21,11 @@ fn check20(tasks: &[u32], task: u32) -> Outcome
     refuse(!known, 20, 0)
 }
 
-// The checks in the order of their numbers. What the lists and the record are refused with stands in every verdict, so in that on job 0.
-pub(crate) fn check_judge(all: Verdicts, tasks: &[u32], task: u32, m: u32, k: u32) -> Outcome
-    ensures { λ r. ⌜ r ≡ checkAll all (now (tasks .entry)) task m k ⌝ }
+// The checks in the order of their numbers, behind what the verdicts are refused with.
+pub(crate) fn check_judge(judged: Outcome, tasks: &[u32], task: u32, m: u32, k: u32) -> Outcome
+    ensures { λ r. ⌜ r ≡ before judged (before (check19 m k) (check20 (now (tasks .entry)) task)) ⌝ }
 {
-    let first = all.of[0];
-    let verdict = first.verdict;
-    let given = refused_by(verdict);
     let pair = check19(m, k);
     let known = check20(tasks, task);
-    before(given, before(pair, known))
+    before(judged, before(pair, known))
 }

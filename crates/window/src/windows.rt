@@ -1,17 +1,9 @@
 // The windows of K consecutive jobs of a task: the first that fails.
 ghost use mathlib.Core.Path.{_≡_};
 ghost use Prim.Native.Nat.{_+_, _<_, _≤_};
-ghost use Rattle.window.specs.Code.{Rising, firstOver, missesBetween, toldOf};
+ghost use Rattle.window.specs.Code.{Rising, firstOver, missesBetween, windowsFrom};
+use crate::answers::Windows;
 use crate::jobs::Gathered;
-
-// The answer about all windows of a task.
-pub enum Windows {
-    Refused(u32, u32),
-    // how many of the task's jobs are open
-    Passes(u32),
-    // of the first window that fails the number of its first job and its misses; how many of the task's jobs are open
-    Fails(u32, u32, u32),
-}
 
 // The misses of the window that begins with the i-th job: those of the first i + k jobs that are not among the first i.
 fn misses(own: Gathered, k: usize, i: usize) -> u32
@@ -38,9 +30,9 @@ fn first_failing(own: Gathered, m: u32, k: usize) -> usize
 }
 
 // What the windows come to: the first that fails, if its last job is one of the task's; else all pass.
-pub(crate) fn told(own: Gathered, m: u32, k: usize) -> Windows
+pub(crate) fn windows_from(own: Gathered, m: u32, k: usize) -> Windows
     requires { ⌜ Rising own × (0 < k) × (k ≤ 64) ⌝ }
-    ensures { λ r. ⌜ r ≡ toldOf own m k ⌝ }
+    ensures { λ r. ⌜ r ≡ windowsFrom own m k ⌝ }
 {
     let i = first_failing(own, m, k);
     let last = i + (k - 1);

@@ -13,10 +13,10 @@ use lib.Dec.{eqb, leb, ltb}
 use lib.ListN.{getD, length}
 use borrow.Author.Tests.{eq-eqb, eqb-false, eqb-true, le-leb, leb-false, leb-true, lt-leb, lt-ltb, ne-eqb}
 use Rattle.bits.specs.Below.{bit, least, some}
-use Rattle.bits.proofs.Below.{least-found, some-true}
-use Rattle.bits.proofs.Bools.{by-cond, clash, fails}
+use Rattle.bits.proofs.Laws.Below.{least-found, some-true}
+use Rattle.bits.proofs.Laws.Bools.{by-cond, clash, never-true, apart}
 use Rattle.bits.proofs.Readings.{and-fails, and-reads, eq-reads, least-reads, lt-fails, lt-reads, none-reads, not-reads, or-else, or-reads, some-reads}
-use Rattle.bits.proofs.Word.{bit-word}
+use Rattle.bits.proofs.Laws.Word.{bit-word}
 use Rattle.zsrm.specs.declared.answers.Claim.the-variants.{Legal, NotLegal}
 use Rattle.zsrm.specs.declared.answers.Verdict.{Verdict}
 use Rattle.zsrm.specs.declared.answers.Witness.{Witness}
@@ -26,13 +26,14 @@ use Rattle.zsrm.specs.declared.tie.Tie.the-variants.{Lowest, Stay}
 use Rattle.zsrm.specs.declared.record.Standing.{Standing}
 use Rattle.zsrm.specs.declared.record.Standing.the-variants.{Ended, Finished, NotArrived, Unfinished}
 use Rattle.zsrm.specs.declared.mode.Mode.the-variants.{SE}
-use Rattle.zsrm.specs.Legal.{claim, candidateOrIdle, finishedAt, legalEntry, schedulingInstant, instantBy, isLegal, legalFrom, legalLength}
+use Rattle.zsrm.specs.Legal.{claim, isFinishedAt, legalEntry, schedulingInstant, instantBy, isLegal, legalFrom, legalLength}
 use Rattle.zsrm.specs.Mend.{keepsPrevious, mendChoice}
 use Rattle.zsrm.specs.Record.{consistent, doneAt, fresh, placeAt, standingAt, suspendedAt, waitedAt}
 use Rattle.zsrm.specs.Given.{isSE, Given}
 use Rattle.zsrm.specs.Run.{replay, replayed, recordAt, recordBefore}
 use Rattle.tables.specs.Tables.{arrival, deadlineInstant, execution, idle, jobCount, jobCriticality, jobNominal, jobPriority, zeroSlackInstant}
-use Rattle.zsrm.specs.Tick.{advanced, alive, candidate, choice, doneAfter, eligible, endedWord, ends, finishes, goesOn, jobWord, keeps, lowest, moreCritical, over, pastZeroSlack, placeAfter, readyAt, readyCount, readyWord, someJob, standingAfter, suspended, suspendedAfter, waitedAfter, waits}
+use Rattle.zsrm.specs.Tick.{advanced, alive, candidate, candidateOrIdle, choice, doneAfter, eligible, endedWord, ends, finishes, goesOn, jobWord, keeps}
+use Rattle.zsrm.specs.Tick.{lowest, moreCritical, over, pastZeroSlack, placeAfter, readyAt, readyCount, readyWord, someJob, standingAfter, suspended, suspendedAfter, waitedAfter, waits}
 use Rattle.zsrm.specs.Said.{verdictSaid}
 use Rattle.zsrm.specs.Verdict.{answered, blamed, isEnded, isLate, isMet, isOpen, judged, missed, verdict, witness, breaks, isOutside, outsider}
 use Rattle.zsrm.proofs.Laws.Places.{done-advanced, alive-unfinished, previous-advanced, standing-alive, suspended-advanced, waited-advanced}
@@ -40,7 +41,8 @@ use Rattle.zsrm.proofs.Laws.Ready.{ready-ones, ready-exactly}
 use Rattle.zsrm.proofs.Laws.Replay.{legal-at, Beginning, beginning, beginning-is}
 use Rattle.zsrm.proofs.Laws.Answers.{whole-legal}
 use Rattle.zsrm.proofs.Laws.Consistent.{Consistent, consistency}
-use Rattle.zsrm.proofs.Laws.Tick.{Raised, done-idle, done-ran, eligible-unended, ended-suspended, goes-on, none-raised, one-raised, runs-eligible, se-reads, candidate-exactly, finishing, past-exactly, suspended-exactly, suspended-more, suspended-same, waited-more, waited-same, waiting}
+use Rattle.zsrm.proofs.Laws.Tick.{Raised, done-idle, done-ran, eligible-unended, ended-suspended, goes-on-cases, none-raised, one-raised, runs-eligible}
+use Rattle.zsrm.proofs.Laws.Tick.{se-reads, candidate-exactly, finishing, past-exactly, suspended-exactly, suspended-more, suspended-same, waited-more, waited-same, waiting}
 use Rattle.zsrm.specs.declared.answers.Verdict.the-variants as verdicts
 use Rattle.zsrm.specs.declared.answers.Witness.the-variants as witnesses
 use Rattle.zsrm.specs.declared.answers.Claim.the-variants as claims
@@ -53,10 +55,6 @@ SomeJob g P = (j : ℕ) × (j < jobCount (g .lists .jobs)) × P j
 
 abbrev pub EveryJob : Given → (ℕ → Type 0) → Type 0
 EveryJob g P = (j : ℕ) → j < jobCount (g .lists .jobs) → P j
-
--- for the proofs: two constructors are never equal, which `cc` finds
-pub apart : {A : Type 0} → _≡_ {A = ℕ} 0 1 → A
-apart z = absurd (omega arith)
 
 -- ## The record
 
@@ -94,7 +92,7 @@ module _ (g : Given) (r : Record) where
 
   -- "A candidate runs if there is one; otherwise the tick is idle."
   pub choice-idle : jobCount (g .lists .jobs) ≤ 64 → (tie : Tie) → choice g tie r ≡ idle ↔ EveryJob g (λ j. candidate g r j ≡ false)
-  choice-idle few tie = choices.choice-idle g few tie r
+  choice-idle few tie = choices.choice-none g few tie r
 
   -- "The run's tie choice becomes: keep the job of the previous tick if it is still a candidate, else the lowest number." The lowest
   -- number always is what `Lowest` asks for.
@@ -103,7 +101,7 @@ module _ (g : Given) (r : Record) where
 
   pub choice-else : (r .previous < jobCount (g .lists .jobs) → candidate g r (r .previous) ≡ true → ⊥) → choice g Stay r ≡ choice g Lowest r
   choice-else never =
-      choices.choice-else g Stay r (fails (keeps g Stay r) (λ k. let w = choices.keeps-reads g Stay r .0 k in never (w .1) (w .2)))
+      choices.choice-not-kept g Stay r (never-true (keeps g Stay r) (λ k. let w = choices.keeps-reads g Stay r .0 k in never (w .1) (w .2)))
       ∙ sym (choices.choice-lowest g r)
 
   pub choice-job : jobCount (g .lists .jobs) ≤ 64 → (j : ℕ) → j < jobCount (g .lists .jobs)
@@ -134,7 +132,7 @@ module _ (g : Given) (r : Record) (e : ℕ) where
   pub finished-reads : (j : ℕ) → j < 64 → alive r j ≡ true
       → standingAt (advanced g r e) j ≡ Finished (suc (r .tick)) ↔ finishes g r e j ≡ true
   finished-reads j l a =
-      rw (standing-alive g r e j l a) (goes-on g r e (λ s. s ≡ Finished (suc (r .tick)) ↔ finishes g r e j ≡ true) j
+      rw (standing-alive g r e j l a) (goes-on-cases g r e (λ s. s ≡ Finished (suc (r .tick)) ↔ finishes g r e j ≡ true) j
       (λ q f. (λ h. finishing g r e j .1 (q, f), λ h. refl)) (λ x y. (λ h. apart (cc), λ h. clash h x)) (λ x y. (λ h. apart (cc), λ h. clash h x)))
 
   -- "SE only: a job is over in tick t if past zero slack and its done at t, plus 1 if it runs in t, exceeds C."
@@ -158,7 +156,7 @@ module _ (g : Given) (r : Record) (e : ℕ) where
   pub ended-reads : (j : ℕ) → j < 64 → alive r j ≡ true
       → standingAt (advanced g r e) j ≡ Ended (r .tick) ↔ (finishes g r e j ≡ false) × (ends g r e j ≡ true)
   ended-reads j l a =
-      rw (standing-alive g r e j l a) (goes-on g r e (λ s. s ≡ Ended (r .tick) ↔ (finishes g r e j ≡ false) × (ends g r e j ≡ true)) j
+      rw (standing-alive g r e j l a) (goes-on-cases g r e (λ s. s ≡ Ended (r .tick) ↔ (finishes g r e j ≡ false) × (ends g r e j ≡ true)) j
       (λ q f. (λ h. apart (cc), λ h. clash (finishing g r e j .1 (q, f)) (h .0))) (λ x y. (λ h. (x, y), λ h. refl))
       (λ x y. (λ h. apart (cc), λ h. clash (h .1) y)))
 
@@ -186,8 +184,8 @@ module _ (g : Given) (r : Record) (e : ℕ) where
   waitedAfter-held = waited-advanced g r e
 
   -- "the tick in which it is ended counts as suspended"
-  pub ended-counts : (j : ℕ) → ends g r e j ≡ true → suspendedAfter g r e j ≡ suc (suspendedAt r j)
-  ended-counts j h = suspended-more g r e j (ended-suspended g r e j h)
+  pub ended-counts-suspended : (j : ℕ) → ends g r e j ≡ true → suspendedAfter g r e j ≡ suc (suspendedAt r j)
+  ended-counts-suspended j h = suspended-more g r e j (ended-suspended g r e j h)
 
 -- "A step reports a 64-bit ready word, whose bit p is set exactly when an eligible job of priority p exists, the number of its ones, the
 -- schedule entry, and a 64-bit word whose bit j is set exactly when job j is ended in this tick."
@@ -220,7 +218,7 @@ module _ (g : Given) (r : Record) where
   schedulingInstant-reads p =
       some-reads _ (λ j. simp or-assoc (or-reads (eq-reads _ _) (or-reads (finished (standingAt r j)) (or-reads (eq-reads _ _) (reached j)))))
     where
-      finished : (s : Standing) → finishedAt (r .tick) s ≡ true ↔ s ≡ Finished (r .tick)
+      finished : (s : Standing) → isFinishedAt (r .tick) s ≡ true ↔ s ≡ Finished (r .tick)
       finished NotArrived = (λ h. apart (cc), λ h. apart (cc))
       finished Unfinished = (λ h. apart (cc), λ h. apart (cc))
       finished (Finished f) = (λ h. ap Finished (eqb-true f (r .tick) h), λ h. eq-eqb f (r .tick) (cc))
@@ -251,7 +249,7 @@ module _ (g : Given) (r : Record) where
       → standingAt (advanced g r e) j ≡ Ended (r .tick) ↔ ends g r e j ≡ true
   ended-legal e j d l a =
       Iff·trans (ended-reads g r e j l a)
-      (λ w. w .1, λ h. (fails _ (λ f. clash h (eligible-unended g r e j (runs-eligible g r e j d l (finishing g r e j .0 f .0)))), h))
+      (λ w. w .1, λ h. (never-true _ (λ f. clash h (eligible-unended g r e j (runs-eligible g r e j d l (finishing g r e j .0 f .0)))), h))
 
   -- "done plus both": a tick whose entry may run raises exactly one of the three numbers of a job alive, by one, and none of any other's.
   pub alive-raises-one : (e j : ℕ) → candidateOrIdle g r e ≡ true → j < 64 → j < jobCount (g .lists .jobs) → alive r j ≡ true
@@ -283,7 +281,8 @@ entryBefore-kept g es t b = kept-at g (fresh (g .lists .jobs)) es t b
 -- .. but no rule of a legal schedule looks at what the record keeps: "Legal claims .. do not change".
 pub previous-unseen : (g : Given) (r : Record) (previous last : ℕ) (es : List ℕ)
     → legalFrom g (record { tick = r .tick; previous = previous; places = r .places }) last es ≡ legalFrom g r last es
-unfolding legalFrom legalEntry schedulingInstant instantBy candidateOrIdle candidate eligible suspended pastZeroSlack alive someJob advanced placeAfter standingAfter goesOn finishes ends over doneAfter suspendedAfter waitedAfter waits doneAt suspendedAt waitedAt standingAt placeAt
+unfolding legalFrom legalEntry schedulingInstant instantBy candidateOrIdle candidate eligible suspended pastZeroSlack alive someJob advanced
+    placeAfter standingAfter goesOn finishes ends over doneAfter suspendedAfter waitedAfter waits doneAt suspendedAt waitedAt standingAt placeAt
 previous-unseen g r previous last [] = refl
 previous-unseen g r previous last (e ∷ es) = refl
 
@@ -323,7 +322,7 @@ claim-not-legal g es t = (there, back)
 
     back : LeastIllegal g es t → cond (eqb n (length es)) Legal (NotLegal n) ≡ NotLegal t
     back w =
-        let same : n ≡ t = beginning-is g (fresh (g .lists .jobs)) idle es t (record { within = omega (arith, w .within); good = w .earlier; bad = λ l. fails _ (w .illegal) }) in
+        let same : n ≡ t = beginning-is g (fresh (g .lists .jobs)) idle es t (record { within = omega (arith, w .within); good = w .earlier; bad = λ l. never-true _ (w .illegal) }) in
         rw (ne-eqb n (length es) (λ e. omega (arith, w .within))) (ap NotLegal same)
 
 pub claim-not-refused : (g : Given) (es : List ℕ) (number place : ℕ) → claim g es ≢ claims.Refused number place
@@ -341,7 +340,8 @@ module _ (g : Given) (r : Record) where
   pub mend-else : (0 < r .tick → schedulingInstant g r (r .previous) ≡ true) → mendChoice g r ≡ choice g Lowest r
   unfolding mendChoice keepsPrevious
   mend-else h =
-      rw (fails (ltb 0 (r .tick) && not (schedulingInstant g r (r .previous))) (λ k. let w = and-reads (lt-reads 0 (r .tick)) (not-reads (schedulingInstant g r (r .previous))) .0 k in clash (h (w .0)) (w .1)))
+      rw (never-true (ltb 0 (r .tick) && not (schedulingInstant g r (r .previous)))
+      (λ k. let w = and-reads (lt-reads 0 (r .tick)) (not-reads (schedulingInstant g r (r .previous))) .0 k in clash (h (w .0)) (w .1)))
       (sym (choices.choice-lowest g r))
 
 -- "Verdict from a consistent record .., H being its own tick: ended; met if finished at f ≤ arrival + D; late if finished later, or alive

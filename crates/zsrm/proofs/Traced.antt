@@ -15,25 +15,37 @@ use Rattle.zsrm.specs.declared.mode.Mode.the-variants.{S, SE}
 use Rattle.zsrm.specs.declared.record.Record.{Record}
 use Rattle.zsrm.specs.declared.tie.Tie.{Tie}
 use Rattle.zsrm.specs.declared.tie.Tie.the-variants.{Lowest, Stay}
-use Rattle.zsrm.specs.Answers.{checkMend, checkSchedule, checkVerdict, checkWitness, claimAnswer, checkGoOn, checkStep, goOnSchedule, mendAnswer, mendSchedule, ran, runAnswer, runSchedule, stepAnswer, stepped, verdictAnswer, witnessAnswer}
-use Rattle.tables.specs.declared.outcome.Outcome.the-variants.{Done}
-use Rattle.tables.specs.Refusals.{unless, ascending, before, check10, check13, check2, check3, check4, check5, check6, check7, check8, check9, checkJobs, checkLists, checkTasks, outside, preceding, refuse}
+use Rattle.zsrm.specs.Answers.{checkMend, checkVerdict, checkWitness, claimAnswer, checkGoOn, checkStep, goOnSchedule, mendAnswer}
+use Rattle.zsrm.specs.Answers.{mendSchedule, ran, runAnswer, runSchedule, stepAnswer, stepped, verdictAnswer, witnessAnswer}
+use Rattle.tables.specs.declared.answers.Outcome.the-variants.{Done}
+use Rattle.tables.specs.Refusals.{unless, ascending, before, check10, check13, check2, check3, check4, check5, check6}
+use Rattle.tables.specs.Refusals.{check7, check8, check9, checkJobs, checkLists, checkTasks, outside, preceding, refuse, checkSchedule}
 use Rattle.zsrm.specs.Given.{Given, given}
-use Rattle.zsrm.specs.Legal.{claim, candidateOrIdle, legalEntry, schedulingInstant, instantBy, isLegal, legalFrom, legalLength}
+use Rattle.zsrm.specs.Legal.{claim, legalEntry, schedulingInstant, instantBy, isLegal, legalFrom, legalLength}
 use Rattle.zsrm.specs.Mend.{differing, differs, keepsPrevious, mend, mendChoice, mended}
-use Rattle.zsrm.specs.Record.{arrived, arriving, blank, consistent, doneAt, fresh, freshPlace, opening, placeAt, soundAt, soundPrevious, standingAt, suspendedAt, waitedAt, check11, check12, checkRoom}
+use Rattle.zsrm.specs.Record.{arrived, arriving, blank, consistent, doneAt, fresh, freshPlace, opening, placeAt}
+use Rattle.zsrm.specs.Record.{soundAt, soundPrevious, standingAt, suspendedAt, waitedAt, check11, check12, checkRoom}
 use Rattle.zsrm.specs.Run.{entriesBy, recordAt, recordBefore, replay, runEntries, runRecord, finalBy, replayed}
-use Rattle.tables.specs.Tables.{arrival, criticality, deadline, deadlineInstant, execution, idle, jobCount, jobCriticality, jobNominal, jobPriority, nominal, overload, period, priority, taskCount, taskOf, offset, zeroSlackInstant}
+use Rattle.tables.specs.Tables.{arrival, criticality, deadline, deadlineInstant, execution, idle, jobCount, jobCriticality, jobNominal}
+use Rattle.tables.specs.Tables.{jobPriority, nominal, overload, period, priority, taskCount, taskOf, offset, zeroSlackInstant}
 use Rattle.zsrm.specs.Said.{claimSaid, standingSaid, verdictSaid, witnessSaid}
-use Rattle.zsrm.specs.Tick.{advanced, alive, candidate, choice, doneAfter, eligible, ends, finishes, goesOn, higherPriority, keeps, lowest, moreCritical, over, pastZeroSlack, placeAfter, someJob, standingAfter, suspended, suspendedAfter, waitedAfter, waits}
+use Rattle.zsrm.specs.Tick.{advanced, alive, candidate, candidateOrIdle, choice, doneAfter, eligible, ends, finishes, goesOn, higherPriority, keeps}
+use Rattle.zsrm.specs.Tick.{lowest, moreCritical, over, pastZeroSlack, placeAfter, someJob, standingAfter, suspended, suspendedAfter, waitedAfter, waits}
 use Rattle.zsrm.specs.Topmost.{Topmost, assured}
-use Rattle.zsrm.specs.Traced.{both, computed, equals, said, table}
+use Rattle.zsrm.specs.Traced.{both, computed, equals, said, cases}
 use Rattle.zsrm.specs.Verdict.{breaks, isOutside, outsider, verdict, witness}
 use Rattle.zsrm.proofs.Promise.{finishes-by, meets, never-blamed}
 use Rattle.zsrm.specs.Said as say
 
-pub traced : (tie : Tie) → map (computed tie) table ≡ map said table
-unfolding table said computed some every least greatest count word listFrom taskCount period deadline nominal overload criticality priority offset jobCount taskOf arrival execution jobCriticality jobPriority jobNominal zeroSlackInstant deadlineInstant refuse before ascending outside check2 check3 check4 checkTasks check5 preceding check6 check7 check8 checkJobs checkLists check9 check10 check11 check13 placeAt doneAt suspendedAt waitedAt standingAt blank arriving arrived opening freshPlace fresh soundAt soundPrevious consistent alive someJob moreCritical higherPriority pastZeroSlack suspended eligible candidate lowest keeps choice doneAfter over ends finishes suspendedAfter waits waitedAfter goesOn standingAfter placeAfter advanced replay entriesBy finalBy runEntries runRecord instantBy schedulingInstant candidateOrIdle legalEntry legalFrom legalLength isLegal claim verdict unless ran checkSchedule checkVerdict runAnswer runSchedule claimAnswer verdictAnswer replayed breaks isOutside outsider witness checkWitness witnessAnswer
+pub traced : (tie : Tie) → map (computed tie) cases ≡ map said cases
+unfolding cases said computed some every least greatest count word listFrom taskCount period deadline nominal overload criticality priority offset
+    jobCount taskOf arrival execution jobCriticality jobPriority jobNominal zeroSlackInstant deadlineInstant refuse before ascending outside check2
+    check3 check4 checkTasks check5 preceding check6 check7 check8 checkJobs checkLists check9 check10 check11 check13 placeAt doneAt suspendedAt
+    waitedAt standingAt blank arriving arrived opening freshPlace fresh soundAt soundPrevious consistent alive someJob moreCritical higherPriority
+    pastZeroSlack suspended eligible candidate lowest keeps choice doneAfter over ends finishes suspendedAfter waits waitedAfter goesOn standingAfter
+    placeAfter advanced replay entriesBy finalBy runEntries runRecord instantBy schedulingInstant candidateOrIdle legalEntry legalFrom legalLength
+    isLegal claim verdict unless ran checkSchedule checkVerdict runAnswer runSchedule claimAnswer verdictAnswer replayed breaks isOutside outsider
+    witness checkWitness witnessAnswer
 traced Stay = refl
 traced Lowest = refl
 
@@ -44,7 +56,11 @@ handed mode = replay (given mode equals both) (fresh both) (1 ∷ [])
 
 pub ties-differ : (mode : Mode) → (stepAnswer (given mode equals both) Stay (handed mode) .entry ≡ 1)
     × (stepAnswer (given mode equals both) Lowest (handed mode) .entry ≡ 0) × (stepAnswer (given mode equals both) Lowest (handed mode) .outcome ≡ Done)
-unfolding some every least greatest listFrom taskCount period deadline nominal overload criticality priority offset jobCount taskOf arrival execution jobCriticality jobPriority jobNominal zeroSlackInstant refuse before ascending outside check2 check3 check4 checkTasks check5 preceding check6 check7 check8 checkJobs checkLists check11 placeAt doneAt suspendedAt waitedAt standingAt arriving arrived opening freshPlace fresh soundAt soundPrevious consistent alive someJob moreCritical higherPriority pastZeroSlack suspended eligible candidate lowest keeps choice doneAfter over ends finishes suspendedAfter waits waitedAfter goesOn standingAfter placeAfter advanced replay unless check12 checkStep stepAnswer stepped
+unfolding some every least greatest listFrom taskCount period deadline nominal overload criticality priority offset jobCount taskOf arrival execution
+    jobCriticality jobPriority jobNominal zeroSlackInstant refuse before ascending outside check2 check3 check4 checkTasks check5 preceding check6
+    check7 check8 checkJobs checkLists check11 placeAt doneAt suspendedAt waitedAt standingAt arriving arrived opening freshPlace fresh soundAt
+    soundPrevious consistent alive someJob moreCritical higherPriority pastZeroSlack suspended eligible candidate lowest keeps choice doneAfter over
+    ends finishes suspendedAfter waits waitedAfter goesOn standingAfter placeAfter advanced replay unless check12 checkStep stepAnswer stepped
 ties-differ S = (refl, refl, refl)
 ties-differ SE = (refl, refl, refl)
 
@@ -56,7 +72,13 @@ pub lowest-goes-on-illegally : (mode : Mode)
     × (claimAnswer (given mode equals both) 6 (1 ∷ 0 ∷ 0 ∷ 0 ∷ 1 ∷ 1 ∷ []) ≡ NotLegal 1)
     × (goOnSchedule (given mode equals both) Stay (replayed (given mode equals both) (1 ∷ [])) 5 (replicate 5 0) ≡ 1 ∷ 1 ∷ 0 ∷ 0 ∷ 0 ∷ [])
     × (claimAnswer (given mode equals both) 6 (1 ∷ 1 ∷ 1 ∷ 0 ∷ 0 ∷ 0 ∷ []) ≡ Legal)
-unfolding some every least greatest listFrom taskCount period deadline nominal overload criticality priority offset jobCount taskOf arrival execution jobCriticality jobPriority jobNominal zeroSlackInstant refuse before ascending outside check2 check3 check4 checkTasks check5 preceding check6 check7 check8 checkJobs checkLists check9 check10 check11 placeAt doneAt suspendedAt waitedAt standingAt arriving arrived opening freshPlace fresh soundAt soundPrevious consistent alive someJob moreCritical higherPriority pastZeroSlack suspended eligible candidate lowest keeps choice doneAfter over ends finishes suspendedAfter waits waitedAfter goesOn standingAfter placeAfter advanced replay entriesBy instantBy schedulingInstant candidateOrIdle legalEntry legalFrom legalLength isLegal claim unless checkSchedule claimAnswer replayed checkRoom checkGoOn goOnSchedule
+unfolding some every least greatest listFrom taskCount period deadline nominal overload criticality priority offset jobCount taskOf arrival execution
+    jobCriticality jobPriority jobNominal zeroSlackInstant refuse before ascending outside check2 check3 check4 checkTasks check5 preceding check6
+    check7 check8 checkJobs checkLists check9 check10 check11 placeAt doneAt suspendedAt waitedAt standingAt arriving arrived opening freshPlace fresh
+    soundAt soundPrevious consistent alive someJob moreCritical higherPriority pastZeroSlack suspended eligible candidate lowest keeps choice
+    doneAfter over ends finishes suspendedAfter waits waitedAfter goesOn standingAfter placeAfter advanced replay entriesBy instantBy
+    schedulingInstant candidateOrIdle legalEntry legalFrom legalLength isLegal claim unless checkSchedule claimAnswer replayed checkRoom checkGoOn
+    goOnSchedule
 lowest-goes-on-illegally S = (refl, refl, refl, refl, refl)
 lowest-goes-on-illegally SE = (refl, refl, refl, refl, refl)
 
@@ -73,7 +95,13 @@ pub mends : (mode : Mode)
     × (mendSchedule (given mode equals both) 6 (idle ∷ 1 ∷ 1 ∷ 1 ∷ 0 ∷ 0 ∷ []) (replicate 6 0) ≡ 0 ∷ 0 ∷ 0 ∷ 1 ∷ 1 ∷ 1 ∷ [])
     × (mendAnswer (given mode equals both) 6 (1 ∷ 1 ∷ 1 ∷ 0 ∷ 0 ∷ 0 ∷ []) (replicate 6 0) ≡ Whole)
     × (mendSchedule (given mode equals both) 6 (1 ∷ 1 ∷ 1 ∷ 0 ∷ 0 ∷ 0 ∷ []) (replicate 6 0) ≡ 1 ∷ 1 ∷ 1 ∷ 0 ∷ 0 ∷ 0 ∷ [])
-unfolding some every count least greatest listFrom taskCount period deadline nominal overload criticality priority offset jobCount taskOf arrival execution jobCriticality jobPriority jobNominal zeroSlackInstant refuse before ascending outside check2 check3 check4 checkTasks check5 preceding check6 check7 check8 checkJobs checkLists check9 check10 placeAt doneAt suspendedAt waitedAt standingAt arriving arrived opening freshPlace fresh alive someJob moreCritical higherPriority pastZeroSlack suspended eligible candidate lowest doneAfter over ends finishes suspendedAfter waits waitedAfter goesOn standingAfter placeAfter advanced replay entriesBy instantBy schedulingInstant candidateOrIdle legalEntry legalFrom legalLength isLegal unless checkSchedule replayed recordAt recordBefore differs differing keepsPrevious mendChoice mended mend checkMend mendAnswer mendSchedule
+unfolding some every count least greatest listFrom taskCount period deadline nominal overload criticality priority offset jobCount taskOf arrival
+    execution jobCriticality jobPriority jobNominal zeroSlackInstant refuse before ascending outside check2 check3 check4 checkTasks check5 preceding
+    check6 check7 check8 checkJobs checkLists check9 check10 placeAt doneAt suspendedAt waitedAt standingAt arriving arrived opening freshPlace fresh
+    alive someJob moreCritical higherPriority pastZeroSlack suspended eligible candidate lowest doneAfter over ends finishes suspendedAfter waits
+    waitedAfter goesOn standingAfter placeAfter advanced replay entriesBy instantBy schedulingInstant candidateOrIdle legalEntry legalFrom legalLength
+    isLegal unless checkSchedule replayed recordAt recordBefore differs differing keepsPrevious mendChoice mended mend checkMend mendAnswer
+    mendSchedule
 mends S = (refl, refl, refl, refl, refl, refl, refl, refl)
 mends SE = (refl, refl, refl, refl, refl, refl, refl, refl)
 
@@ -126,10 +154,20 @@ overrun-met mode schedule legal =
 
 -- In S jobs 1 and 0 then go on.
 pub premises-met-S : Premises (overrun S) 20 (0 ∷ 0 ∷ 1 ∷ 1 ∷ 2 ∷ 2 ∷ 2 ∷ 1 ∷ 1 ∷ 0 ∷ 0 ∷ replicate 9 idle) 2 2
-unfolding some listFrom taskCount period deadline nominal overload criticality priority offset jobCount taskOf arrival execution jobCriticality jobPriority jobNominal zeroSlackInstant refuse before ascending outside check2 check3 check4 checkTasks check5 preceding check6 check7 check8 checkJobs checkLists check9 check10 placeAt doneAt suspendedAt waitedAt standingAt arriving arrived opening freshPlace fresh alive someJob moreCritical higherPriority pastZeroSlack suspended eligible candidate doneAfter over ends finishes suspendedAfter waits waitedAfter goesOn standingAfter placeAfter advanced instantBy schedulingInstant candidateOrIdle legalEntry legalFrom legalLength isLegal claim unless checkSchedule claimAnswer claimSaid greatest
+unfolding some listFrom taskCount period deadline nominal overload criticality priority offset jobCount taskOf arrival execution jobCriticality
+    jobPriority jobNominal zeroSlackInstant refuse before ascending outside check2 check3 check4 checkTasks check5 preceding check6 check7 check8
+    checkJobs checkLists check9 check10 placeAt doneAt suspendedAt waitedAt standingAt arriving arrived opening freshPlace fresh alive someJob
+    moreCritical higherPriority pastZeroSlack suspended eligible candidate doneAfter over ends finishes suspendedAfter waits waitedAfter goesOn
+    standingAfter placeAfter advanced instantBy schedulingInstant candidateOrIdle legalEntry legalFrom legalLength isLegal claim unless checkSchedule
+    claimAnswer claimSaid greatest
 premises-met-S = overrun-met S (0 ∷ 0 ∷ 1 ∷ 1 ∷ 2 ∷ 2 ∷ 2 ∷ 1 ∷ 1 ∷ 0 ∷ 0 ∷ replicate 9 idle) refl
 
 -- In SE both are ended in tick 6, and the rest is idle.
 pub premises-met-SE : Premises (overrun SE) 20 (0 ∷ 0 ∷ 1 ∷ 1 ∷ 2 ∷ 2 ∷ 2 ∷ replicate 13 idle) 2 2
-unfolding some listFrom taskCount period deadline nominal overload criticality priority offset jobCount taskOf arrival execution jobCriticality jobPriority jobNominal zeroSlackInstant refuse before ascending outside check2 check3 check4 checkTasks check5 preceding check6 check7 check8 checkJobs checkLists check9 check10 placeAt doneAt suspendedAt waitedAt standingAt arriving arrived opening freshPlace fresh alive someJob moreCritical higherPriority pastZeroSlack suspended eligible candidate doneAfter over ends finishes suspendedAfter waits waitedAfter goesOn standingAfter placeAfter advanced instantBy schedulingInstant candidateOrIdle legalEntry legalFrom legalLength isLegal claim unless checkSchedule claimAnswer claimSaid greatest
+unfolding some listFrom taskCount period deadline nominal overload criticality priority offset jobCount taskOf arrival execution jobCriticality
+    jobPriority jobNominal zeroSlackInstant refuse before ascending outside check2 check3 check4 checkTasks check5 preceding check6 check7 check8
+    checkJobs checkLists check9 check10 placeAt doneAt suspendedAt waitedAt standingAt arriving arrived opening freshPlace fresh alive someJob
+    moreCritical higherPriority pastZeroSlack suspended eligible candidate doneAfter over ends finishes suspendedAfter waits waitedAfter goesOn
+    standingAfter placeAfter advanced instantBy schedulingInstant candidateOrIdle legalEntry legalFrom legalLength isLegal claim unless checkSchedule
+    claimAnswer claimSaid greatest
 premises-met-SE = overrun-met SE (0 ∷ 0 ∷ 1 ∷ 1 ∷ 2 ∷ 2 ∷ 2 ∷ replicate 13 idle) refl

@@ -7,15 +7,20 @@ use denote.Ref.{now, ptr}
 use Rattle.zsrm.proofs.c.zsrm_claim.Reads as zsrm-claim
 use Rattle.zsrm.proofs.c.zsrm_run.Reads as zsrm-run
 use Rattle.zsrm.proofs.claims.claim.Reads as claim
+use Rattle.zsrm.proofs.claims.replay.Reads as replay
+use Rattle.zsrm.proofs.record.Record.blank.Reads as blank
 use Rattle.zsrm.proofs.record.Record.fresh.Reads as fresh
 use Rattle.zsrm.proofs.record.Record.go_on.Reads as go-on
 use Rattle.zsrm.proofs.record.Record.step.Reads as step
-use Rattle.zsrm.proofs.judging.response.Reads as response
+use Rattle.zsrm.proofs.witnesses.response.Reads as response
 use Rattle.zsrm.proofs.judging.verdict.Reads as verdict
 use Rattle.zsrm.proofs.judging.verdicts.Reads as verdicts
-use Rattle.zsrm.proofs.judging.witness.Reads as witness
+use Rattle.zsrm.proofs.witnesses.witness.Reads as witness
 use Rattle.zsrm.proofs.mending.mend.Reads as mend
 use Rattle.zsrm.proofs.runs.run.Reads as run
+
+pub blank-one : (κs : Lfts 0) (a : _) (r s : _) (e f : _) → blank.Learnt κs a r e → blank.Learnt κs a s f → r ≡ s
+blank-one κs a r s e f p q = p ∙ sym q
 
 pub fresh-one : (κs : Lfts 2) (a : _) (r s : _) (e f : _) → fresh.Learnt κs a r e → fresh.Learnt κs a s f → r ≡ s
 fresh-one κs a r s e f p q = p ∙ sym q
@@ -31,6 +36,9 @@ run-one κs a r s e f p q = (p .0 ∙ sym (q .0), p .1 ∙ sym (q .1))
 
 pub claim-one : (κs : Lfts 3) (a : _) (r s : _) (e f : _) → claim.Learnt κs a r e → claim.Learnt κs a s f → r ≡ s
 claim-one κs a r s e f p q = p ∙ sym q
+
+pub replay-one : (κs : Lfts 3) (a : _) (r s : _) (e f : _) → replay.Learnt κs a r e → replay.Learnt κs a s f → r ≡ s
+replay-one κs a r s e f p q = p ∙ sym q
 
 pub mend-one : (κs : Lfts 4) (a : _) (r s : _) (e f : _) → mend.Learnt κs a r e → mend.Learnt κs a s f → (r ≡ s) × (now (e .1 .1 .1 .1 .1 .0) ≡ now (f .1 .1 .1 .1 .1 .0))
 mend-one κs a r s e f p q = (p .0 ∙ sym (q .0), p .1 ∙ sym (q .1))

@@ -2,14 +2,15 @@
 -- checks for what it is given.
 use Prim.Native.Nat.{ℕ, zero, suc}
 use mathlib.Core.List.{List}
-use lib.ListN.{length}
+use lib.ListN.{getD, length}
 use Rattle.zsrm.specs.declared.record.Record.{Record}
 use Rattle.zsrm.specs.declared.tie.Tie.{Tie}
-use Rattle.tables.specs.declared.outcome.Outcome.{Outcome}
-use Rattle.tables.specs.declared.outcome.Outcome.the-variants.{Done, Refused}
+use Rattle.tables.specs.declared.answers.Outcome.{Outcome}
+use Rattle.tables.specs.declared.answers.Outcome.the-variants.{Done, Refused}
 use Rattle.zsrm.specs.declared.answers.Ran.{Ran}
 use Rattle.zsrm.specs.declared.answers.Stepped.{Stepped}
 use Rattle.zsrm.specs.declared.answers.Claim.{Claim}
+use Rattle.zsrm.specs.declared.answers.Replayed.{Replayed}
 use Rattle.zsrm.specs.declared.answers.Mended.{Mended}
 use Rattle.zsrm.specs.declared.answers.Judged.{Judged}
 use Rattle.zsrm.specs.declared.answers.Verdict.{Verdict}
@@ -17,10 +18,10 @@ use Rattle.zsrm.specs.declared.answers.Verdicts.{Verdicts}
 use Rattle.zsrm.specs.declared.answers.Witness.{Witness}
 use Rattle.bits.specs.Below.{listFrom}
 use Rattle.zsrm.specs.Given.{Given}
-use Rattle.tables.specs.Refusals.{before, checkLists, check9, check10, check13, unless}
+use Rattle.tables.specs.Refusals.{before, checkLists, check10, check13, unless, checkSchedule}
 use Rattle.zsrm.specs.Record.{check11, check12, checkRoom, blank, fresh, consistent}
 use Rattle.zsrm.specs.Tick.{choice, readyWord, readyCount, endedWord, advanced}
-use Rattle.zsrm.specs.Run.{entriesBy, finalBy, runEntries, runRecord}
+use Rattle.zsrm.specs.Run.{entriesBy, finalBy, replayed, runEntries, runRecord}
 use Rattle.zsrm.specs.Legal.{claim}
 use Rattle.zsrm.specs.Mend.{mend, mended}
 use Rattle.zsrm.specs.Verdict.{Part, emptyPart, part, verdict, witness}
@@ -51,14 +52,23 @@ stepped g tie r =
       ended = endedWord g r (choice g tie r);
     }
 
+-- One of all verdicts, as an array's element is read.
+abbrev pub verdictOf : Verdicts → ℕ → Verdict
+verdictOf all j = getD (all .of) j (record { verdict = verdicts.Refused 0 0 }) .verdict
+
+-- Of a schedule that the claim check answers legal its record, else the blank one.
+abbrev pub ifLegal : Claim → Record → Record
+ifLegal (claims.Refused number place) r = blank
+ifLegal claims.Legal r = r
+ifLegal (claims.NotLegal t) r = blank
+
 -- The fresh record, whatever record the method is called on.
 unfoldable pub freshAnswer : List ℕ → List ℕ → Ran
 freshAnswer tasks jobs = ran (checkLists (lists tasks jobs)) (fresh jobs)
 
--- The checks, in the order of their numbers: lists 2 to 8; step 11, 12; going on 10, 11, 12; run and claim 9, 10; mending 9, 10 of either
--- list; verdict 11, 13; witness 9, 10, 13. Of a schedule the number of its entries is checked.
-unfoldable pub checkSchedule : Lists → ℕ → ℕ → Outcome
-checkSchedule l horizon entries = before (checkLists l) (before (check9 horizon) (check10 entries horizon))
+-- The checks, in the order of their numbers: lists 2 to 8; step 11, 12; going on 10, 11, 12; run, claim and replay 9, 10
+-- (`checkSchedule`, in tables); mending 9, 10 of either list; all verdicts 11; verdict 11, 13; witness 9, 10, 13. Of a schedule the number
+-- of its entries is checked.
 
 -- 10 if either list has the wrong length: the claim, and the list that is lent for the result
 unfoldable pub checkMend : Lists → ℕ → ℕ → ℕ → Outcome
@@ -73,6 +83,10 @@ checkStep g r = before (checkLists (g .lists)) (before (check11 (consistent g r)
 unfoldable pub checkGoOn : Given → Record → ℕ → ℕ → Outcome
 checkGoOn g r ticks entries =
     before (checkLists (g .lists)) (before (check10 entries ticks) (before (check11 (consistent g r)) (checkRoom (r .tick) ticks)))
+
+-- all verdicts: no job is named, so 13 is not given
+unfoldable pub checkVerdicts : Given → Record → Outcome
+checkVerdicts g r = before (checkLists (g .lists)) (check11 (consistent g r))
 
 unfoldable pub checkVerdict : Given → Record → ℕ → Outcome
 checkVerdict g r j = before (checkLists (g .lists)) (before (check11 (consistent g r)) (check13 (g .lists .jobs) j))
@@ -105,6 +119,11 @@ module _ (g : Given) where
   unfoldable pub claimAnswer : ℕ → List ℕ → Claim
   claimAnswer horizon schedule = unless (checkSchedule (g .lists) horizon (length schedule)) claims.Refused (claim g schedule)
 
+  -- the claim check's own answer, and the record at the schedule's end where it is legal
+  unfoldable pub replayAnswer : ℕ → List ℕ → Replayed
+  replayAnswer horizon schedule =
+      record { claim = claimAnswer horizon schedule; «record» = ifLegal (claimAnswer horizon schedule) (replayed g schedule) }
+
   unfoldable pub mendAnswer : ℕ → List ℕ → List ℕ → Mended
   mendAnswer horizon schedule lent = unless (checkMend (g .lists) horizon (length schedule) (length lent)) mends.Refused (mend g schedule)
 
@@ -116,12 +135,13 @@ module _ (g : Given) where
   unfoldable pub verdictAnswer : Record → ℕ → Verdict
   verdictAnswer r j = unless (checkVerdict g r j) verdicts.Refused (verdict (g .lists) r j)
 
-  -- all verdicts at once: for each job number below 64, in the list or not, what `verdict` answers
+  -- all verdicts at once: what the lists and the record are refused with, and for each job number below 64, in the list or not, what
+  -- `verdict` answers
   unfoldable pub judgedAt : Record → ℕ → Judged
   judgedAt r j = record { verdict = verdictAnswer r j }
 
   unfoldable pub verdictsAnswer : Record → Verdicts
-  verdictsAnswer r = record { of = listFrom 0 64 (judgedAt r) }
+  verdictsAnswer r = record { outcome = checkVerdicts g r; of = listFrom 0 64 (judgedAt r) }
 
   unfoldable pub witnessAnswer : ℕ → List ℕ → ℕ → Witness
   witnessAnswer horizon schedule j = unless (checkWitness (g .lists) horizon (length schedule) j) witnesses.Refused (witness g schedule j)

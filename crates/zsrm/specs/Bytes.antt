@@ -1,40 +1,23 @@
 -- Document 01, the calls from C: every list is a run of bytes, each number little-endian in its own width, four bytes for tables and
--- jobs, two for schedules; a result is one number.
+-- jobs, two for schedules; a result is one number. `numbersIn` of the crate `tables` are the numbers that bytes spell, `bytesOf` the bytes
+-- of numbers, each by the width.
 use Prim.Native.Nat.{ℕ, _+_, _*_, _/_, _%_}
 use mathlib.Core.Bool.{not, cond}
-use mathlib.Core.List.{List, [], _∷_}
-use lib.ListN.{length, getD}
+use mathlib.Core.List.{List}
+use lib.ListN.{length}
 use lib.Dec.{eqb, ltb}
-use Rattle.bits.specs.Below.{listFrom}
 use Rattle.zsrm.specs.declared.mode.Mode.{Mode}
 use Rattle.zsrm.specs.declared.mode.Mode.the-variants.{S, SE}
 use Rattle.zsrm.specs.declared.tie.Tie.the-variants.{Stay}
-use Rattle.tables.specs.declared.outcome.Outcome.{Outcome}
-use Rattle.tables.specs.declared.outcome.Outcome.the-variants.{Done, Refused}
+use Rattle.tables.specs.declared.answers.Outcome.{Outcome}
+use Rattle.tables.specs.declared.answers.Outcome.the-variants.{Done, Refused}
 use Rattle.zsrm.specs.declared.answers.Claim.{Claim}
 use Rattle.zsrm.specs.Given.{Given, given}
 use Rattle.tables.specs.Refusals.{refuse, before, checkTasks, checkJobs, check9, check10, unless}
 use Rattle.zsrm.specs.Run.{runEntries}
 use Rattle.zsrm.specs.Legal.{claim}
-use Rattle.tables.specs.Bytes.{numberAt}
+use Rattle.tables.specs.Bytes.{bytesOf, numbersIn}
 use Rattle.zsrm.specs.declared.answers.Claim.the-variants as claims
-
-module _ (bytes : List ℕ) where
-  -- the list of numbers of four bytes each
-  unfoldable pub numbers4 : List ℕ
-  numbers4 = listFrom 0 (length bytes / 4) (λ i. numberAt bytes (i * 4))
-
-  -- the number of two bytes at place i, its lowest byte first, and the list
-  unfoldable pub number2 : ℕ → ℕ
-  number2 i = getD bytes (i * 2) 0 + getD bytes (i * 2 + 1) 0 * 256
-
-  unfoldable pub numbers2 : List ℕ
-  numbers2 = listFrom 0 (length bytes / 2) number2
-
--- a schedule's entries as bytes
-unfoldable pub bytes2 : List ℕ → List ℕ
-bytes2 [] = []
-bytes2 (e ∷ es) = e % 256 ∷ e / 256 ∷ bytes2 es
 
 -- The mode number is 0 (S) or 1 (SE).
 unfoldable pub modeOf : ℕ → Mode
@@ -50,14 +33,14 @@ uneven count width number = refuse (not (eqb (count % width) 0)) number 0
 
 -- what the bytes of the lists say
 unfoldable pub givenBytes : ℕ → List ℕ → List ℕ → Given
-givenBytes mode tasks jobs = given (modeOf mode) (numbers4 tasks) (numbers4 jobs)
+givenBytes mode tasks jobs = given (modeOf mode) (numbersIn 4 tasks) (numbersIn 4 jobs)
 
 -- 1, 2, the tasks, 5, the jobs, 9, 10; of the schedule the count of its bytes is checked
 unfoldable pub checkBytes : ℕ → List ℕ → List ℕ → ℕ → ℕ → Outcome
 checkBytes mode tasks jobs horizon count =
     before (check1 mode)
-    (before (before (uneven (length tasks) 4 2) (checkTasks (numbers4 tasks)))
-    (before (before (uneven (length jobs) 4 5) (checkJobs (numbers4 tasks) (numbers4 jobs)))
+    (before (before (uneven (length tasks) 4 2) (checkTasks (numbersIn 4 tasks)))
+    (before (before (uneven (length jobs) 4 5) (checkJobs (numbersIn 4 tasks) (numbersIn 4 jobs)))
     (before (check9 horizon) (before (uneven count 2 10) (check10 (count / 2) horizon)))))
 
 -- 0 for done, or a refusal's number plus 256 times its place
@@ -79,9 +62,9 @@ module _ (mode : ℕ) (tasks jobs : List ℕ) (horizon : ℕ) (schedule : List �
   unfoldable pub runBytes : List ℕ
   runBytes =
       unless (checkBytes mode tasks jobs horizon (length schedule)) (λ number place. schedule)
-      (bytes2 (runEntries (givenBytes mode tasks jobs) Stay horizon))
+      (bytesOf 2 (runEntries (givenBytes mode tasks jobs) Stay horizon))
 
   unfoldable pub claimResult : ℕ
   claimResult =
       packedClaim
-      (unless (checkBytes mode tasks jobs horizon (length schedule)) claims.Refused (claim (givenBytes mode tasks jobs) (numbers2 schedule)))
+      (unless (checkBytes mode tasks jobs horizon (length schedule)) claims.Refused (claim (givenBytes mode tasks jobs) (numbersIn 2 schedule)))

@@ -1,8 +1,8 @@
 -- Document 01, "Legal schedules": scheduling instants, legal entries, the answer to a claim.
 use Prim.Native.Nat.{ℕ, suc}
-use mathlib.Core.Bool.{Bool, true, false, not, _&&_, _||_, cond}
+use mathlib.Core.Bool.{Bool, true, false, _&&_, _||_, cond}
 use mathlib.Core.List.{List, [], _∷_}
-use lib.Dec.{ltb, eqb}
+use lib.Dec.{eqb}
 use lib.ListN.{length}
 use Rattle.zsrm.specs.declared.record.Standing.{Standing}
 use Rattle.zsrm.specs.declared.record.Standing.the-variants.{NotArrived, Unfinished, Finished, Ended}
@@ -10,15 +10,15 @@ use Rattle.zsrm.specs.declared.record.Record.{Record}
 use Rattle.zsrm.specs.declared.answers.Claim.{Claim}
 use Rattle.zsrm.specs.declared.answers.Claim.the-variants.{Legal, NotLegal}
 use Rattle.zsrm.specs.Given.{Given, isSE}
-use Rattle.tables.specs.Tables.{idle, jobCount, arrival, jobNominal, zeroSlackInstant}
+use Rattle.tables.specs.Tables.{idle, arrival, jobNominal, zeroSlackInstant}
 use Rattle.zsrm.specs.Record.{doneAt, standingAt, fresh}
-use Rattle.zsrm.specs.Tick.{someJob, candidate, advanced}
+use Rattle.zsrm.specs.Tick.{someJob, candidateOrIdle, advanced}
 
-abbrev pub finishedAt : ℕ → Standing → Bool
-finishedAt t NotArrived = false
-finishedAt t Unfinished = false
-finishedAt t (Finished f) = eqb f t
-finishedAt t (Ended e) = false
+abbrev pub isFinishedAt : ℕ → Standing → Bool
+isFinishedAt t NotArrived = false
+isFinishedAt t Unfinished = false
+isFinishedAt t (Finished f) = eqb f t
+isFinishedAt t (Ended e) = false
 
 -- r is the record at the tick, last the entry before it.
 module _ (g : Given) (r : Record) (last : ℕ) where
@@ -26,18 +26,13 @@ module _ (g : Given) (r : Record) (last : ℕ) where
   -- it ran in t − 1 and reached done = C.
   unfoldable pub instantBy : ℕ → Bool
   instantBy j =
-      eqb (arrival (g .lists .jobs) j) (r .tick) || finishedAt (r .tick) (standingAt r j) || eqb (zeroSlackInstant (g .lists) j) (r .tick)
+      eqb (arrival (g .lists .jobs) j) (r .tick) || isFinishedAt (r .tick) (standingAt r j) || eqb (zeroSlackInstant (g .lists) j) (r .tick)
       || (isSE (g .mode) && eqb last j && eqb (doneAt r j) (jobNominal (g .lists) j))
 
   unfoldable pub schedulingInstant : Bool
   schedulingInstant = someJob (g .lists .jobs) instantBy
 
--- The entry is a candidate, or idle with no candidate.
-unfoldable pub candidateOrIdle : Given → Record → ℕ → Bool
-candidateOrIdle g r e =
-    (ltb e (jobCount (g .lists .jobs)) && candidate g r e) || (eqb e idle && not (someJob (g .lists .jobs) (candidate g r)))
-
--- Legal: that, and, where t > 0 is no scheduling instant, equal to the entry before.
+-- Legal: a candidate, or idle with no candidate, and, where t > 0 is no scheduling instant, equal to the entry before.
 unfoldable pub legalEntry : Given → Record → ℕ → ℕ → Bool
 legalEntry g r last e = candidateOrIdle g r e && (eqb (r .tick) 0 || schedulingInstant g r last || eqb e last)
 

@@ -11,7 +11,7 @@ use Rattle.zsrm.specs.declared.record.Standing.the-variants.{NotArrived,
 use Rattle.zsrm.specs.declared.record.Place.{Place}
 use Rattle.zsrm.specs.declared.record.Record.{Record}
 use Rattle.zsrm.specs.Given.{Given, isSE}
-use Rattle.tables.specs.declared.outcome.Outcome.{Outcome}
+use Rattle.tables.specs.declared.answers.Outcome.{Outcome}
 use Rattle.tables.specs.Refusals.{refuse}
 use Rattle.tables.specs.Tables.{idle, jobCount, arrival, execution}
 

@@ -68,8 +68,8 @@ verdictSaid verdicts.Ended = ended
 verdictSaid verdicts.Open = stillOpen
 
 -- of a witness; outside the assumption it is three numbers, the second the job named; accepted against a late job it is three, too
-abbrev pub outside : ℕ → List ℕ
-outside i = 3 ∷ i ∷ 0 ∷ []
+abbrev pub outsideAssumption : ℕ → List ℕ
+outsideAssumption i = 3 ∷ i ∷ 0 ∷ []
 
 abbrev pub acceptedLate : ℕ → Bool → List ℕ
 acceptedLate by isExact = 0 ∷ by ∷ flag isExact ∷ []
@@ -83,7 +83,7 @@ notMissed = 1 ∷ []
 unfoldable pub witnessSaid : Witness → List ℕ
 witnessSaid (witnesses.Refused number place) = refused number place
 witnessSaid (witnesses.NotLegal t) = notLegal t
-witnessSaid (witnesses.Outside i) = outside i
+witnessSaid (witnesses.Outside i) = outsideAssumption i
 witnessSaid witnesses.NotMissed = notMissed
 witnessSaid (witnesses.AcceptedLate by isExact) = acceptedLate by isExact
 witnessSaid witnesses.AcceptedEnded = acceptedEnded

@@ -1,7 +1,7 @@
 -- Document 01, "One tick", with request Nine's tie choice.
 use Prim.Native.Nat.{ℕ, suc, _+_}
 use mathlib.Core.List.{List}
-use mathlib.Core.Bool.{Bool, true, false, not, _&&_, cond}
+use mathlib.Core.Bool.{Bool, true, false, not, _&&_, _||_, cond}
 use lib.Dec.{leb, ltb, eqb}
 use Rattle.bits.specs.Below.{some, least, count, word, listFrom}
 use Rattle.zsrm.specs.declared.record.Standing.{Standing}
@@ -14,15 +14,15 @@ use Rattle.zsrm.specs.Given.{Given, isSE}
 use Rattle.tables.specs.Tables.{idle, jobCount, execution, jobCriticality, jobPriority, jobNominal, zeroSlackInstant}
 use Rattle.zsrm.specs.Record.{doneAt, suspendedAt, waitedAt, standingAt, opening}
 
-abbrev pub unfinished : Standing → Bool
-unfinished NotArrived = false
-unfinished Unfinished = true
-unfinished (Finished f) = false
-unfinished (Ended e) = false
+abbrev pub isUnfinished : Standing → Bool
+isUnfinished NotArrived = false
+isUnfinished Unfinished = true
+isUnfinished (Finished f) = false
+isUnfinished (Ended e) = false
 
 -- A job is alive if arrived, neither finished nor ended.
 unfoldable pub alive : Record → ℕ → Bool
-alive r j = unfinished (standingAt r j)
+alive r j = isUnfinished (standingAt r j)
 
 abbrev pub isStay : Tie → Bool
 isStay Stay = true
@@ -65,6 +65,10 @@ module _ (g : Given) where
     -- the lowest job number among the candidates; with no candidate the tick is idle
     unfoldable pub lowest : ℕ
     lowest = least (jobCount (g .lists .jobs)) candidate idle
+
+    -- What a tick may give: a candidate, or idle with no candidate.
+    unfoldable pub candidateOrIdle : ℕ → Bool
+    candidateOrIdle e = (ltb e (jobCount (g .lists .jobs)) && candidate e) || (eqb e idle && not (someJob (g .lists .jobs) candidate))
 
   -- Stay only: the previous entry is a job of the list, and still a candidate.
   unfoldable pub keeps : Tie → Record → Bool

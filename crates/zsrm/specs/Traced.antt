@@ -10,8 +10,8 @@ use Rattle.zsrm.specs.declared.mode.Mode.the-variants.{S, SE}
 use Rattle.zsrm.specs.declared.record.Standing.{Standing}
 use Rattle.zsrm.specs.declared.record.Standing.the-variants.{NotArrived, Unfinished, Finished, Ended}
 use Rattle.zsrm.specs.declared.tie.Tie.{Tie}
-use Rattle.tables.specs.declared.outcome.Outcome.{Outcome}
-use Rattle.tables.specs.declared.outcome.Outcome.the-variants.{Done}
+use Rattle.tables.specs.declared.answers.Outcome.{Outcome}
+use Rattle.tables.specs.declared.answers.Outcome.the-variants.{Done}
 use Rattle.zsrm.specs.declared.answers.Claim.{Claim}
 use Rattle.zsrm.specs.declared.answers.Claim.the-variants.{Legal, NotLegal}
 use Rattle.zsrm.specs.declared.answers.Verdict.{Verdict}
@@ -131,8 +131,8 @@ nested =
 
 -- A case of ours, for the assumption of a witness, which is about the whole list: job 1 arrives at the horizon only, and its c exceeds its C.
 -- Against job 1 itself that does not matter.
-abbrev pub ahead : Case
-ahead =
+abbrev pub arrivesLater : Case
+arrivesLater =
     onFig1 S (0 ∷ 0 ∷ 1 ∷ 1 ∷ 8 ∷ 10 ∷ []) 8 (0 ∷ idle ∷ idle ∷ idle ∷ idle ∷ idle ∷ idle ∷ idle ∷ [])
     (Finished 1 ∷ Unfinished ∷ []) (Met ∷ Open ∷ []) (Outside 1 ∷ NotMissed ∷ [])
 
@@ -156,8 +156,8 @@ peers =
     }
 
 -- the cases 1 to 9, 10 in either mode, 11, which has horizon 0, and ours
-unfoldable pub table : List Case
-table =
+unfoldable pub cases : List Case
+cases =
     onFig1 S (listA 5) 16 (0 ∷ 0 ∷ 0 ∷ 0 ∷ 1 ∷ 1 ∷ 1 ∷ 1 ∷ 2 ∷ 2 ∷ 1 ∷ 2 ∷ 2 ∷ idle ∷ idle ∷ idle ∷ [])
     (Finished 4 ∷ Finished 11 ∷ Finished 13 ∷ []) (Met ∷ Met ∷ Met ∷ []) (NotMissed ∷ NotMissed ∷ NotMissed ∷ [])
     ∷ onFig1 S (listA 10) 18 (0 ∷ 0 ∷ 0 ∷ 0 ∷ 1 ∷ 1 ∷ 1 ∷ 1 ∷ 2 ∷ 2 ∷ 1 ∷ 1 ∷ 1 ∷ 1 ∷ 1 ∷ 1 ∷ 2 ∷ 2 ∷ [])
@@ -181,6 +181,6 @@ table =
     ∷ onEquals SE
     ∷ onFig1 S (listA 5) 0 [] (Unfinished ∷ Unfinished ∷ NotArrived ∷ []) (Open ∷ Open ∷ Open ∷ []) (NotMissed ∷ NotMissed ∷ NotMissed ∷ [])
     ∷ nested
-    ∷ ahead
+    ∷ arrivesLater
     ∷ peers
     ∷ []

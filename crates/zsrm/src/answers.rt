@@ -2,7 +2,6 @@
 ghost use mathlib.Core.Path.{_≡_};
 ghost use Rattle.zsrm.specs.Answers.{ran};
 use crate::record::Record;
-use crate::record::blank;
 use tables::Outcome;
 
 // The answer of a fresh record, of a run, and of going on.
@@ -21,7 +20,7 @@ pub(crate) fn or_blank(outcome: Outcome, made: Record) -> Ran
             record: made,
         },
         Outcome::Refused(number, place) => {
-            let record = blank();
+            let record = Record::blank();
             Ran {
                 outcome: Outcome::Refused(number, place),
                 record,
@@ -47,6 +46,12 @@ pub enum Claim {
     NotLegal(u32),
 }
 
+// The answer to a schedule that is replayed: the claim check's own, and the record at its end where it is legal, else the blank one.
+pub struct Replayed {
+    pub claim: Claim,
+    pub record: Record,
+}
+
 // The answer to a claim that is mended: a legal one comes back whole; else the first changed tick, and how many entries differ.
 pub enum Mended {
     Refused(u32, u32),
@@ -69,8 +74,10 @@ pub struct Judged {
     pub verdict: Verdict,
 }
 
-// The verdicts on all jobs, by their numbers; a number that is no job's is refused.
+// The verdicts on all jobs, by their numbers; a number that is no job's is refused. The outcome is what the lists and the record are refused
+// with, and then every verdict is.
 pub struct Verdicts {
+    pub outcome: Outcome,
     pub of: [Judged; 64],
 }
 

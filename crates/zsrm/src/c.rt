@@ -3,25 +3,25 @@
 ghost use mathlib.Core.Path.{_≡_};
 ghost use Prim.Native.Nat.{_+_, _*_, _/_, _%_, _≤_};
 ghost use lib.ListN.{length, take};
-ghost use Rattle.tables.specs.declared.outcome.Outcome.{Outcome};
+ghost use Rattle.tables.specs.declared.answers.Outcome.{Outcome};
 ghost use Rattle.tables.specs.Refusals.{before, check9, check10, checkLists};
 ghost use Rattle.zsrm.specs.declared.tie.Tie.{Tie};
 ghost use Rattle.zsrm.specs.Run.{runEntries};
 ghost use Rattle.zsrm.specs.Legal.{claim};
 ghost use Rattle.zsrm.specs.Given.{given};
-ghost use Rattle.zsrm.specs.Bytes.{numbers2, bytes2, modeOf, uneven, packedClaim, runResult, runBytes, claimResult};
+ghost use Rattle.tables.specs.Bytes.{numbersIn, bytesOf};
+ghost use Rattle.zsrm.specs.Bytes.{modeOf, uneven, packedClaim, runResult, runBytes, claimResult};
 ghost use Rattle.zsrm.specs.Code.Called.{checkCount, checkNumbers, called};
 ghost use Rattle.tables.specs.Tables.{lists};
 use crate::bytes::decode;
 use crate::bytes::number2;
 use crate::bytes::put2;
+use crate::claims::advance_with;
 use crate::claims::is_legal;
-use crate::claims::taken;
 use crate::mode::Mode;
 use crate::record::fresh_record;
 use crate::tick::View;
 use crate::tie::Tie;
-use tables::IDLE;
 use tables::Outcome;
 use tables::before;
 use tables::check_jobs;
@@ -87,7 +87,7 @@ struct Called {
 }
 
 // What a call is given, read once and checked.
-fn check_call(mode: u32, tasks: &[u8], jobs: &[u8], horizon: u32, count: usize) -> Called
+fn read_call(mode: u32, tasks: &[u8], jobs: &[u8], horizon: u32, count: usize) -> Called
     ensures { λ r. ⌜ r ≡ called mode (now (tasks .entry)) (now (jobs .entry)) horizon count ⌝ }
 {
     let mut table = [0u32; 192];
@@ -124,7 +124,7 @@ fn packed(number: u32, place: u32) -> u32
 fn run_bytes(mode: Mode, tasks: &[u32], jobs: &[u32], schedule: &mut [u8])
     requires { ⌜ checkLists (lists (now tasks) (now jobs)) ≡ Outcome.Done ⌝ }
     requires { ⌜ (length (now schedule) ≤ 32768) × (length (now schedule) % 2 ≡ 0) ⌝ }
-    ensures { λ _. ⌜ now (schedule .exit) ≡ bytes2 (runEntries (given mode (now (tasks .entry)) (now (jobs .entry))) Tie.Stay (length (now (schedule .entry)) / 2)) ⌝ }
+    ensures { λ _. ⌜ now (schedule .exit) ≡ bytesOf 2 (runEntries (given mode (now (tasks .entry)) (now (jobs .entry))) Tie.Stay (length (now (schedule .entry)) / 2)) ⌝ }
 {
     let ticks = schedule.len() / 2;
     let mut rec = fresh_record(jobs);
@@ -150,7 +150,7 @@ fn run_decoded<'a>(
     requires { ⌜ (n ≤ length (now tasks)) × (m ≤ length (now jobs)) ⌝ }
     requires { ⌜ checkLists (lists (take n (now tasks)) (take m (now jobs))) ≡ Outcome.Done ⌝ }
     requires { ⌜ (length (now schedule) ≤ 32768) × (length (now schedule) % 2 ≡ 0) ⌝ }
-    ensures { λ _. ⌜ now (schedule .exit) ≡ bytes2 (runEntries (given mode (take n (now (tasks .entry))) (take m (now (jobs .entry)))) Tie.Stay (length (now (schedule .entry)) / 2)) ⌝ }
+    ensures { λ _. ⌜ now (schedule .exit) ≡ bytesOf 2 (runEntries (given mode (take n (now (tasks .entry))) (take m (now (jobs .entry)))) Tie.Stay (length (now (schedule .entry)) / 2)) ⌝ }
 {
     run_bytes(mode, &tasks[..n], &jobs[..m], schedule);
 }
@@ -159,19 +159,17 @@ fn run_decoded<'a>(
 fn claim_bytes(mode: Mode, tasks: &[u32], jobs: &[u32], schedule: &[u8]) -> u32
     requires { ⌜ checkLists (lists (now tasks) (now jobs)) ≡ Outcome.Done ⌝ }
     requires { ⌜ length (now schedule) ≤ 32768 ⌝ }
-    ensures { λ r. ⌜ r ≡ packedClaim (claim (given mode (now (tasks .entry)) (now (jobs .entry))) (numbers2 (now (schedule .entry)))) ⌝ }
+    ensures { λ r. ⌜ r ≡ packedClaim (claim (given mode (now (tasks .entry)) (now (jobs .entry))) (numbersIn 2 (now (schedule .entry)))) ⌝ }
 {
     let ticks = schedule.len() / 2;
     let mut rec = fresh_record(jobs);
-    let mut last: u16 = IDLE;
     let mut t: usize = 0;
     while t < ticks {
         let entry = number2(schedule, t);
         let seen = View::at(rec, tasks, jobs);
-        if is_legal(seen, rec, mode, last, entry, tasks, jobs) {
-            let next = taken(seen, rec, mode, entry, tasks, jobs);
+        if is_legal(seen, rec, mode, entry, tasks, jobs) {
+            let next = advance_with(seen, rec, mode, entry, tasks, jobs);
             rec = next;
-            last = entry;
             t += 1;
         } else {
             return 65536 + (t as u32);
@@ -192,7 +190,7 @@ fn claim_decoded<'a>(
     requires { ⌜ (n ≤ length (now tasks)) × (m ≤ length (now jobs)) ⌝ }
     requires { ⌜ checkLists (lists (take n (now tasks)) (take m (now jobs))) ≡ Outcome.Done ⌝ }
     requires { ⌜ length (now schedule) ≤ 32768 ⌝ }
-    ensures { λ r. ⌜ r ≡ packedClaim (claim (given mode (take n (now (tasks .entry))) (take m (now (jobs .entry)))) (numbers2 (now (schedule .entry)))) ⌝ }
+    ensures { λ r. ⌜ r ≡ packedClaim (claim (given mode (take n (now (tasks .entry))) (take m (now (jobs .entry)))) (numbersIn 2 (now (schedule .entry)))) ⌝ }
 {
     claim_bytes(mode, &tasks[..n], &jobs[..m], schedule)
 }
@@ -209,7 +207,7 @@ pub extern "C" fn zsrm_run(
     ensures answers { λ r. ⌜ r ≡ runResult mode (now (tasks .entry)) (now (jobs .entry)) horizon (now (schedule .entry)) ⌝ }
     ensures writes { λ r. ⌜ now (schedule .exit) ≡ runBytes mode (now (tasks .entry)) (now (jobs .entry)) horizon (now (schedule .entry)) ⌝ }
 {
-    let read = check_call(mode, tasks, jobs, horizon, schedule.len());
+    let read = read_call(mode, tasks, jobs, horizon, schedule.len());
     let outcome = read.outcome;
     match outcome {
         Outcome::Done => {
@@ -234,7 +232,7 @@ pub extern "C" fn zsrm_claim(
 ) -> u32
     ensures { λ r. ⌜ r ≡ claimResult mode (now (tasks .entry)) (now (jobs .entry)) horizon (now (schedule .entry)) ⌝ }
 {
-    let read = check_call(mode, tasks, jobs, horizon, schedule.len());
+    let read = read_call(mode, tasks, jobs, horizon, schedule.len());
     let outcome = read.outcome;
     match outcome {
         Outcome::Done => {

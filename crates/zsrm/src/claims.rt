@@ -3,30 +3,31 @@ ghost use mathlib.Core.Path.{_≡_};
 ghost use mathlib.Core.Bool.{true};
 ghost use Prim.Native.Nat.{_≤_, _<_};
 ghost use lib.ListN.{length};
-ghost use Rattle.tables.specs.declared.outcome.Outcome.{Outcome};
+ghost use Rattle.tables.specs.declared.answers.Outcome.{Outcome};
 ghost use Rattle.tables.specs.Tables.{jobCount, lists};
 ghost use Rattle.tables.specs.Refusals.{checkLists};
 ghost use Rattle.zsrm.specs.Record.{consistent};
 ghost use Rattle.zsrm.specs.Code.View.{view};
-ghost use Rattle.zsrm.specs.Legal.{finishedAt, schedulingInstant, candidateOrIdle, legalEntry};
-ghost use Rattle.zsrm.specs.Tick.{advanced};
-ghost use Rattle.zsrm.specs.Code.Claims.{ReplayedAs, instantAt, topOrIdle};
+ghost use Rattle.zsrm.specs.Legal.{isFinishedAt, schedulingInstant, legalEntry};
+ghost use Rattle.zsrm.specs.Tick.{advanced, candidateOrIdle};
+ghost use Rattle.zsrm.specs.Code.Claims.{WalkedAs, instantAt, topOrIdle};
 ghost use Rattle.zsrm.specs.Given.{given};
-ghost use Rattle.zsrm.specs.Answers.{claimAnswer};
+ghost use Rattle.zsrm.specs.Answers.{claimAnswer, replayAnswer};
 use crate::answers::Claim;
+use crate::answers::Replayed;
 use crate::mode::Mode;
 use crate::mode::is_se;
 use crate::record::Place;
 use crate::record::Record;
 use crate::record::Standing;
 use crate::record::fresh_record;
-use crate::runs::check_schedule;
 use crate::step::ended_word;
 use crate::tick::View;
 use crate::tick::has_priority;
 use tables::IDLE;
 use tables::Outcome;
 use tables::Priority;
+use tables::check_schedule;
 use tables::job_at;
 use tables::job_count;
 use tables::nominal_of;
@@ -34,7 +35,7 @@ use tables::zero_slack_instant;
 
 // Whether the standing is finished, at the instant t.
 fn is_finished_at(t: u32, standing: Standing) -> bool
-    ensures { λ r. ⌜ r ≡ finishedAt t standing ⌝ }
+    ensures { λ r. ⌜ r ≡ isFinishedAt t standing ⌝ }
 {
     match standing {
         Standing::NotArrived => false,
@@ -65,14 +66,15 @@ fn is_instant_by(
         | reached
 }
 
-// Whether the record's tick is a scheduling instant, the entry before it being given.
-pub(crate) fn is_instant(rec: Record, mode: Mode, last: u16, tasks: &[u32], jobs: &[u32]) -> bool
+// Whether the record's tick is a scheduling instant, the entry before it being the one that the record keeps.
+pub(crate) fn is_instant(rec: Record, mode: Mode, tasks: &[u32], jobs: &[u32]) -> bool
     requires { ⌜ jobCount (now jobs) ≤ 64 ⌝ }
-    ensures { λ r. ⌜ r ≡ schedulingInstant (given mode (now (tasks .entry)) (now (jobs .entry))) rec last ⌝ }
+    ensures { λ r. ⌜ r ≡ schedulingInstant (given mode (now (tasks .entry)) (now (jobs .entry))) rec (rec .previous) ⌝ }
 {
     let n = job_count(jobs);
     let se = is_se(mode);
     let t = rec.tick;
+    let last = rec.previous;
     let mut j: usize = 0;
     while j < n {
         let place = rec.places[j];
@@ -94,25 +96,25 @@ fn is_top_or_idle(seen: View, entry: u16, tasks: &[u32], jobs: &[u32]) -> bool
         | ((entry == IDLE) & (seen.ready == 0))
 }
 
-// Whether the entry is legal in the record's tick, given the entry before; what is seen is the view of the record.
+// Whether the entry is legal in the record's tick, behind the entry that the record keeps; what is seen is the view of the record.
 pub(crate) fn is_legal(
     seen: View,
     rec: Record,
     mode: Mode,
-    last: u16,
     entry: u16,
     tasks: &[u32],
     jobs: &[u32],
 ) -> bool
     requires { ⌜ checkLists (lists (now tasks) (now jobs)) ≡ Outcome.Done ⌝ }
     requires { ⌜ seen ≡ view (lists (now tasks) (now jobs)) rec ⌝ }
-    ensures { λ r. ⌜ r ≡ legalEntry (given mode (now (tasks .entry)) (now (jobs .entry))) rec last entry ⌝ }
+    ensures { λ r. ⌜ r ≡ legalEntry (given mode (now (tasks .entry)) (now (jobs .entry))) rec (rec .previous) entry ⌝ }
 {
+    let last = rec.previous;
     if is_top_or_idle(seen, entry, tasks, jobs) {
         if (rec.tick == 0) | (entry == last) {
             true
         } else {
-            is_instant(rec, mode, last, tasks, jobs)
+            is_instant(rec, mode, tasks, jobs)
         }
     } else {
         false
@@ -120,7 +122,7 @@ pub(crate) fn is_legal(
 }
 
 // The record after its tick with an entry that may run; what is seen is the view of the record.
-pub(crate) fn taken(
+pub(crate) fn advance_with(
     seen: View,
     rec: Record,
     mode: Mode,
@@ -138,37 +140,69 @@ pub(crate) fn taken(
 }
 
 // How many entries of a schedule are legal, up to the first that is not, and the record there.
-pub(crate) struct Replayed {
+pub(crate) struct Walked {
     pub ticks: u32,
     pub record: Record,
 }
 
 // A whole schedule replayed, up to the least tick that is not legal.
-pub(crate) fn replay(mode: Mode, tasks: &[u32], jobs: &[u32], schedule: &[u16]) -> Replayed
+pub(crate) fn walk(mode: Mode, tasks: &[u32], jobs: &[u32], schedule: &[u16]) -> Walked
     requires { ⌜ (checkLists (lists (now tasks) (now jobs)) ≡ Outcome.Done) × (length (now schedule) ≤ 16384) ⌝ }
-    ensures { λ r. ⌜ ReplayedAs (given mode (now (tasks .entry)) (now (jobs .entry))) (now (schedule .entry)) r ⌝ }
+    ensures { λ r. ⌜ WalkedAs (given mode (now (tasks .entry)) (now (jobs .entry))) (now (schedule .entry)) r ⌝ }
 {
     let mut rec = fresh_record(jobs);
-    let mut last: u16 = IDLE;
     let mut t: usize = 0;
     while t < schedule.len() {
         let entry = schedule[t];
         let seen = View::at(rec, tasks, jobs);
-        if is_legal(seen, rec, mode, last, entry, tasks, jobs) {
-            let next = taken(seen, rec, mode, entry, tasks, jobs);
+        if is_legal(seen, rec, mode, entry, tasks, jobs) {
+            let next = advance_with(seen, rec, mode, entry, tasks, jobs);
             rec = next;
-            last = entry;
             t += 1;
         } else {
-            return Replayed {
+            return Walked {
                 ticks: t as u32,
                 record: rec,
             };
         }
     }
-    Replayed {
+    Walked {
         ticks: t as u32,
         record: rec,
+    }
+}
+
+// A claimed schedule replayed: the claim check's own answer, and the record at the schedule's end where it is legal, else the blank one;
+// refusals 2 to 10.
+pub fn replay(mode: Mode, tasks: &[u32], jobs: &[u32], horizon: u32, schedule: &[u16]) -> Replayed
+    ensures { λ r. ⌜ r ≡ replayAnswer (given mode (now (tasks .entry)) (now (jobs .entry))) horizon (now (schedule .entry)) ⌝ }
+{
+    let checked = check_schedule(tasks, jobs, horizon, schedule.len());
+    match checked {
+        Outcome::Done => {
+            let walked = walk(mode, tasks, jobs, schedule);
+            let ticks = walked.ticks;
+            if (ticks as usize) == schedule.len() {
+                let record = walked.record;
+                Replayed {
+                    claim: Claim::Legal,
+                    record,
+                }
+            } else {
+                let record = Record::blank();
+                Replayed {
+                    claim: Claim::NotLegal(ticks),
+                    record,
+                }
+            }
+        }
+        Outcome::Refused(number, place) => {
+            let record = Record::blank();
+            Replayed {
+                claim: Claim::Refused(number, place),
+                record,
+            }
+        }
     }
 }
 
@@ -176,17 +210,6 @@ pub(crate) fn replay(mode: Mode, tasks: &[u32], jobs: &[u32], schedule: &[u16]) 
 pub fn claim(mode: Mode, tasks: &[u32], jobs: &[u32], horizon: u32, schedule: &[u16]) -> Claim
     ensures { λ r. ⌜ r ≡ claimAnswer (given mode (now (tasks .entry)) (now (jobs .entry))) horizon (now (schedule .entry)) ⌝ }
 {
-    let checked = check_schedule(tasks, jobs, horizon, schedule.len());
-    match checked {
-        Outcome::Done => {
-            let replayed = replay(mode, tasks, jobs, schedule);
-            let ticks = replayed.ticks;
-            if (ticks as usize) == schedule.len() {
-                Claim::Legal
-            } else {
-                Claim::NotLegal(ticks)
-            }
-        }
-        Outcome::Refused(number, place) => Claim::Refused(number, place),
-    }
+    let replayed = replay(mode, tasks, jobs, horizon, schedule);
+    replayed.claim
 }

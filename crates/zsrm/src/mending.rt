@@ -4,26 +4,26 @@ ghost use mathlib.Core.Path.{_≡_};
 ghost use mathlib.Core.Bool.{cond};
 ghost use Prim.Native.Nat.{_+_, _≤_, _<_};
 ghost use lib.ListN.{length, take};
-ghost use Rattle.tables.specs.declared.outcome.Outcome.{Outcome};
+ghost use Rattle.tables.specs.declared.answers.Outcome.{Outcome};
 ghost use Rattle.tables.specs.Tables.{jobCount, lists};
 ghost use Rattle.tables.specs.Refusals.{checkLists};
 ghost use Rattle.zsrm.specs.Run.{entriesBy};
 ghost use Rattle.zsrm.specs.Mend.{differing, keepsPrevious, mendChoice, mended};
-ghost use Rattle.zsrm.specs.Code.Claims.{Mendable, ReplayedAs};
+ghost use Rattle.zsrm.specs.Code.Claims.{Mendable, WalkedAs};
 ghost use Rattle.zsrm.specs.Given.{given};
 ghost use Rattle.zsrm.specs.Answers.{checkMend, mendAnswer, mendSchedule};
 use crate::answers::Mended;
-use crate::claims::Replayed;
+use crate::claims::Walked;
+use crate::claims::advance_with;
 use crate::claims::is_instant;
-use crate::claims::replay;
-use crate::claims::taken;
+use crate::claims::walk;
 use crate::mode::Mode;
 use crate::record::Record;
-use crate::runs::check_schedule;
 use crate::tick::View;
 use crate::tie::Tie;
 use tables::Outcome;
 use tables::before;
+use tables::check_schedule;
 use tables::check10;
 
 // What mending checks of its input: 2 to 9, and 10 of either list.
@@ -41,7 +41,7 @@ fn kept_or(rec: Record, mode: Mode, lowest: u16, tasks: &[u32], jobs: &[u32]) ->
     requires { ⌜ jobCount (now jobs) ≤ 64 ⌝ }
     ensures { λ r. ⌜ r ≡ cond (keepsPrevious (given mode (now (tasks .entry)) (now (jobs .entry))) rec) (rec .previous) lowest ⌝ }
 {
-    let instant = is_instant(rec, mode, rec.previous, tasks, jobs);
+    let instant = is_instant(rec, mode, tasks, jobs);
     if (0 < rec.tick) & !instant {
         rec.previous
     } else {
@@ -50,7 +50,7 @@ fn kept_or(rec: Record, mode: Mode, lowest: u16, tasks: &[u32], jobs: &[u32]) ->
 }
 
 // One more where it counts.
-fn counted(counts: bool, n: u32) -> u32
+fn count_if(counts: bool, n: u32) -> u32
     requires { ⌜ n < 16384 ⌝ }
     ensures { λ r. ⌜ r ≡ cond counts 1 0 + n ⌝ }
 {
@@ -69,8 +69,10 @@ fn mend_from(
 ) -> u32
     requires { ⌜ (checkLists (lists (now tasks) (now jobs)) ≡ Outcome.Done) × (length (now claimed) ≡ length (now into)) ⌝ }
     requires { ⌜ Mendable (given mode (now tasks) (now jobs)) start × (start .tick + length (now into) ≤ 16384) ⌝ }
-    ensures counts { λ r. ⌜ r ≡ differing (now (claimed .entry)) (entriesBy (given mode (now (tasks .entry)) (now (jobs .entry))) (mendChoice (given mode (now (tasks .entry)) (now (jobs .entry)))) start (length (now (into .entry)))) ⌝ }
-    ensures writes { λ r. ⌜ now (into .exit) ≡ entriesBy (given mode (now (tasks .entry)) (now (jobs .entry))) (mendChoice (given mode (now (tasks .entry)) (now (jobs .entry)))) start (length (now (into .entry))) ⌝ }
+    ensures counts { λ r. ⌜ r ≡ differing (now (claimed .entry)) (entriesBy (given mode (now (tasks .entry)) (now (jobs .entry)))
+        (mendChoice (given mode (now (tasks .entry)) (now (jobs .entry)))) start (length (now (into .entry)))) ⌝ }
+    ensures writes { λ r. ⌜ now (into .exit) ≡ entriesBy (given mode (now (tasks .entry)) (now (jobs .entry)))
+        (mendChoice (given mode (now (tasks .entry)) (now (jobs .entry)))) start (length (now (into .entry))) ⌝ }
 {
     let mut rec = start;
     let mut changed: u32 = 0;
@@ -80,9 +82,9 @@ fn mend_from(
         let seen = View::at(rec, tasks, jobs);
         let lowest = seen.choice(Tie::Lowest, rec.previous, tasks, jobs);
         let chosen = kept_or(rec, mode, lowest, tasks, jobs);
-        let next = taken(seen, rec, mode, chosen, tasks, jobs);
+        let next = advance_with(seen, rec, mode, chosen, tasks, jobs);
         into[t] = chosen;
-        changed = counted(entry != chosen, changed);
+        changed = count_if(entry != chosen, changed);
         rec = next;
         t += 1;
     }
@@ -104,21 +106,21 @@ fn copy(from: &[u16], n: usize, to: &mut [u16])
 
 // Writes the mended schedule, the claim being replayed, and counts the entries that differ.
 fn write_mended(
-    replayed: Replayed,
+    walked: Walked,
     mode: Mode,
     tasks: &[u32],
     jobs: &[u32],
     schedule: &[u16],
     into: &mut [u16],
 ) -> u32
-    requires { ⌜ (checkLists (lists (now tasks) (now jobs)) ≡ Outcome.Done) × ReplayedAs (given mode (now tasks) (now jobs)) (now schedule) replayed ⌝ }
+    requires { ⌜ (checkLists (lists (now tasks) (now jobs)) ≡ Outcome.Done) × WalkedAs (given mode (now tasks) (now jobs)) (now schedule) walked ⌝ }
     requires { ⌜ (length (now schedule) ≤ 16384) × (length (now into) ≡ length (now schedule)) ⌝ }
     ensures counts { λ r. ⌜ r ≡ differing (now (schedule .entry)) (mended (given mode (now (tasks .entry)) (now (jobs .entry))) (now (schedule .entry))) ⌝ }
     ensures writes { λ r. ⌜ now (into .exit) ≡ mended (given mode (now (tasks .entry)) (now (jobs .entry))) (now (schedule .entry)) ⌝ }
 {
-    let first = replayed.ticks as usize;
+    let first = walked.ticks as usize;
     copy(schedule, first, into);
-    let record = replayed.record;
+    let record = walked.record;
     mend_from(
         record,
         mode,
@@ -145,9 +147,9 @@ pub fn mend(
     let checked = check_mend(tasks, jobs, horizon, schedule.len(), mended.len());
     match checked {
         Outcome::Done => {
-            let replayed = replay(mode, tasks, jobs, schedule);
-            let first = replayed.ticks;
-            let changed = write_mended(replayed, mode, tasks, jobs, schedule, mended);
+            let walked = walk(mode, tasks, jobs, schedule);
+            let first = walked.ticks;
+            let changed = write_mended(walked, mode, tasks, jobs, schedule, mended);
             if (first as usize) == schedule.len() {
                 Mended::Whole
             } else {

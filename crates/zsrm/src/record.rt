@@ -39,20 +39,22 @@ pub struct Record {
     pub places: [Place; 64],
 }
 
-// A refusal's record.
-pub(crate) fn blank() -> Record
-    ensures { λ r. ⌜ r ≡ blank ⌝ }
-{
-    let empty = Place {
-        done: 0,
-        suspended: 0,
-        waited: 0,
-        standing: Standing::NotArrived,
-    };
-    Record {
-        tick: 0,
-        previous: IDLE,
-        places: [empty; 64],
+impl Record {
+    // A refusal's record.
+    pub fn blank() -> Record
+        ensures { λ r. ⌜ r ≡ blank ⌝ }
+    {
+        let empty = Place {
+            done: 0,
+            suspended: 0,
+            waited: 0,
+            standing: Standing::NotArrived,
+        };
+        Record {
+            tick: 0,
+            previous: IDLE,
+            places: [empty; 64],
+        }
     }
 }
 
@@ -96,7 +98,8 @@ fn is_accounted(a: u32, t: u32, place: Place) -> bool
 
 // What consistency asks of place j.
 fn is_sound_at(mode: Mode, jobs: &[u32], t: u32, j: u32, place: Place) -> bool
-    ensures { λ r. ⌜ r ≡ (soundPlace (isSE mode) (arrived (now (jobs .entry)) t j) (arrival (now (jobs .entry)) j) (execution (now (jobs .entry)) j) t (place .done) (place .standing) && accounted (arrival (now (jobs .entry)) j) t place (place .standing)) ⌝ }
+    ensures { λ r. ⌜ r ≡ (soundPlace (isSE mode) (arrived (now (jobs .entry)) t j) (arrival (now (jobs .entry)) j) (execution (now (jobs .entry)) j) t
+        (place .done) (place .standing) && accounted (arrival (now (jobs .entry)) j) t place (place .standing)) ⌝ }
 {
     let job = job_at(jobs, j);
     let here = has_arrived(jobs, t, j);
@@ -174,7 +177,7 @@ fn fresh_place(jobs: &[u32], j: u32) -> Place
 pub(crate) fn fresh_record(jobs: &[u32]) -> Record
     ensures { λ r. ⌜ r ≡ fresh (now (jobs .entry)) ⌝ }
 {
-    let mut out = blank();
+    let mut out = Record::blank();
     let mut j: usize = 0;
     while j < 64 {
         out.places[j] = fresh_place(jobs, j as u32);

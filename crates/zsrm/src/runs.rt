@@ -3,19 +3,18 @@ ghost use mathlib.Core.Path.{_≡_};
 ghost use mathlib.Core.Bool.{true};
 ghost use Prim.Native.Nat.{_+_, _≤_};
 ghost use lib.ListN.{length};
-ghost use Rattle.tables.specs.declared.outcome.Outcome.{Outcome};
+ghost use Rattle.tables.specs.declared.answers.Outcome.{Outcome};
 ghost use Rattle.tables.specs.Refusals.{checkLists};
 ghost use Rattle.zsrm.specs.Record.{consistent};
 ghost use Rattle.zsrm.specs.Run.{entriesBy, finalBy};
 ghost use Rattle.zsrm.specs.Given.{given};
-ghost use Rattle.zsrm.specs.Answers.{checkGoOn, checkSchedule, goOnAnswer, goOnSchedule, runAnswer, runSchedule};
+ghost use Rattle.zsrm.specs.Answers.{checkGoOn, goOnAnswer, goOnSchedule, runAnswer, runSchedule};
 ghost use Rattle.tables.specs.Tables.{lists};
 ghost use Rattle.zsrm.specs.Tick.{choice};
 use crate::answers::Ran;
 use crate::answers::or_blank;
 use crate::mode::Mode;
 use crate::record::Record;
-use crate::record::blank;
 use crate::record::check_room;
 use crate::record::check11;
 use crate::record::fresh_record;
@@ -24,7 +23,7 @@ use crate::tie::Tie;
 use tables::Outcome;
 use tables::before;
 use tables::check_lists;
-use tables::check9;
+use tables::check_schedule;
 use tables::check10;
 
 // A run from any consistent record for as many ticks as the list has entries.
@@ -38,8 +37,10 @@ pub(crate) fn run_from(
 ) -> Record
     requires { ⌜ checkLists (lists (now tasks) (now jobs)) ≡ Outcome.Done ⌝ }
     requires { ⌜ (consistent (given mode (now tasks) (now jobs)) start ≡ true) × (start .tick + length (now schedule) ≤ 16384) ⌝ }
-    ensures ends { λ r. ⌜ r ≡ finalBy (given mode (now (tasks .entry)) (now (jobs .entry))) (choice (given mode (now (tasks .entry)) (now (jobs .entry))) tie) start (length (now (schedule .entry))) ⌝ }
-    ensures writes { λ r. ⌜ now (schedule .exit) ≡ entriesBy (given mode (now (tasks .entry)) (now (jobs .entry))) (choice (given mode (now (tasks .entry)) (now (jobs .entry))) tie) start (length (now (schedule .entry))) ⌝ }
+    ensures ends { λ r. ⌜ r ≡ finalBy (given mode (now (tasks .entry)) (now (jobs .entry)))
+        (choice (given mode (now (tasks .entry)) (now (jobs .entry))) tie) start (length (now (schedule .entry))) ⌝ }
+    ensures writes { λ r. ⌜ now (schedule .exit) ≡ entriesBy (given mode (now (tasks .entry)) (now (jobs .entry)))
+        (choice (given mode (now (tasks .entry)) (now (jobs .entry))) tie) start (length (now (schedule .entry))) ⌝ }
 {
     let mut rec = start;
     let mut t: usize = 0;
@@ -51,16 +52,6 @@ pub(crate) fn run_from(
         t += 1;
     }
     rec
-}
-
-// What a run and a claim check of their input: 2 to 8, 9, 10.
-pub(crate) fn check_schedule(tasks: &[u32], jobs: &[u32], horizon: u32, entries: usize) -> Outcome
-    ensures { λ r. ⌜ r ≡ checkSchedule (lists (now (tasks .entry)) (now (jobs .entry))) horizon entries ⌝ }
-{
-    before(
-        check_lists(tasks, jobs),
-        before(check9(horizon), check10(entries, horizon)),
-    )
 }
 
 // Our run from the fresh record, its entries written into the caller's list; refusals 2 to 10, the list then keeping its entries.
@@ -81,7 +72,10 @@ pub fn run(
             let record = run_from(fresh_record(jobs), mode, tie, tasks, jobs, schedule);
             or_blank(Outcome::Done, record)
         }
-        Outcome::Refused(number, place) => or_blank(Outcome::Refused(number, place), blank()),
+        Outcome::Refused(number, place) => or_blank(
+            Outcome::Refused(number, place),
+            Record::blank(),
+        ),
     }
 }
 
@@ -125,7 +119,10 @@ impl Record {
                 let record = run_from(self, mode, tie, tasks, jobs, schedule);
                 or_blank(Outcome::Done, record)
             }
-            Outcome::Refused(number, place) => or_blank(Outcome::Refused(number, place), blank()),
+            Outcome::Refused(number, place) => or_blank(
+                Outcome::Refused(number, place),
+                Record::blank(),
+            ),
         }
     }
 }

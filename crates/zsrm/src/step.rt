@@ -2,7 +2,7 @@
 ghost use mathlib.Core.Path.{_≡_};
 ghost use mathlib.Core.Bool.{true};
 ghost use Prim.Native.Nat.{_≤_, _<_};
-ghost use Rattle.tables.specs.declared.outcome.Outcome.{Outcome};
+ghost use Rattle.tables.specs.declared.answers.Outcome.{Outcome};
 ghost use Rattle.tables.specs.Tables.{jobCount, lists};
 ghost use Rattle.tables.specs.Refusals.{checkLists};
 ghost use Rattle.zsrm.specs.Record.{consistent};
@@ -16,7 +16,6 @@ use crate::answers::or_blank;
 use crate::mode::Mode;
 use crate::mode::is_se;
 use crate::record::Record;
-use crate::record::blank;
 use crate::record::check11;
 use crate::record::check12;
 use crate::record::fresh_record;
@@ -55,7 +54,7 @@ pub(crate) fn ended_word(
 fn refused_step(number: u32, place: u32) -> Stepped
     ensures { λ r. ⌜ r ≡ refusedStep number place ⌝ }
 {
-    let record = blank();
+    let record = Record::blank();
     Stepped {
         outcome: Outcome::Refused(number, place),
         record,

@@ -4,8 +4,9 @@ ghost use mathlib.Core.Bool.{_&&_, cond};
 ghost use lib.Dec.{ltb};
 ghost use Prim.Native.Nat.{_≤_};
 ghost use Rattle.tables.specs.Tables.{jobCount, lists};
-ghost use Rattle.zsrm.specs.Tick.{unfinished, alive, jobWord};
-ghost use Rattle.zsrm.specs.Code.View.{isPast, pastWord, hasPriority, priorityWord, lowestOf, overruns, overrunWord, view, keepsBy, chosen, waitingWord, tickedBy, lessCriticalIn, lessCriticalWord, greatestCriticality};
+ghost use Rattle.zsrm.specs.Tick.{isUnfinished, alive, jobWord};
+ghost use Rattle.zsrm.specs.Code.View.{isPast, pastWord, hasPriority, priorityWord, lowestOf, overruns, overrunWord, greatestCriticality};
+ghost use Rattle.zsrm.specs.Code.View.{view, keepsBy, chosen, waitingWord, tickedBy, lessCriticalIn, lessCriticalWord};
 use crate::next::Ticked;
 use crate::next::one_more_if;
 use crate::record::Record;
@@ -32,7 +33,7 @@ pub(crate) struct View {
 
 // Whether the standing is that of a job alive.
 fn is_unfinished(standing: Standing) -> bool
-    ensures { λ r. ⌜ r ≡ unfinished standing ⌝ }
+    ensures { λ r. ⌜ r ≡ isUnfinished standing ⌝ }
 {
     match standing {
         Standing::NotArrived => false,
@@ -82,7 +83,7 @@ fn past_word(among: u64, tick: u32, tasks: &[u32], jobs: &[u32]) -> u64
 }
 
 // The greater of two criticalities; the second where the first does not count.
-fn greater(counts: bool, its: Criticality, most: Criticality) -> Criticality
+fn greater_if(counts: bool, its: Criticality, most: Criticality) -> Criticality
     ensures { λ r. ⌜ r .0 ≡ cond (counts && ltb (most .0) (its .0)) (its .0) (most .0) ⌝ }
 {
     if counts & its.exceeds(most) {
@@ -102,7 +103,7 @@ pub(crate) fn greatest_criticality(among: u64, tasks: &[u32], jobs: &[u32]) -> C
     let mut j: usize = 0;
     while j < n {
         let its = criticality_of(tasks, jobs, j as u32);
-        most = greater(bits::has_bit(among, j as u32), its, most);
+        most = greater_if(bits::has_bit(among, j as u32), its, most);
         j += 1;
     }
     most

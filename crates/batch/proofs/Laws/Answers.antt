@@ -4,19 +4,20 @@ use mathlib.Core.List.{List}
 use mathlib.Core.Logic.{inl}
 use mathlib.Core.Path.{ap, sym, _∙_, _≡_}
 use lib.ListN.{length, replicate}
-use Rattle.tables.specs.declared.outcome.Outcome.{Outcome}
-use Rattle.tables.specs.declared.outcome.Outcome.the-variants.{Done, Refused}
-use Rattle.tables.specs.Refusals.{before, check9, checkJobs, checkLists, checkTasks, unless}
+use Rattle.tables.specs.declared.answers.Outcome.{Outcome}
+use Rattle.tables.specs.declared.answers.Outcome.the-variants.{Done, Refused}
+use Rattle.tables.specs.Refusals.{before, check9, checkJobs, checkLists, checkTasks, unless, checkSchedule}
 use Rattle.tables.proofs.Laws.Refusals.{before-first, before-last, before-second}
+use Rattle.tables.proofs.Laws.Accepted.{schedule-checked}
 use Rattle.zsrm.specs.declared.record.Record.{Record}
 use Rattle.zsrm.specs.declared.tie.Tie.{Tie}
 use Rattle.zsrm.specs.declared.tie.Tie.the-variants.{Lowest}
-use Rattle.zsrm.specs.Answers.{checkSchedule, ran, runAnswer, runSchedule}
+use Rattle.zsrm.specs.Answers.{ran, runAnswer, runSchedule}
 use Rattle.zsrm.specs.Given.{Given}
 use Rattle.zsrm.specs.Record.{blank}
 use Rattle.zsrm.specs.Run.{runRecord}
-use Rattle.zsrm.proofs.Laws.Answers.{run-given, run-outcome, schedule-checked}
-use Rattle.batch.specs.declared.Batch.{Batch}
+use Rattle.zsrm.proofs.Laws.Answers.{run-given, run-outcome}
+use Rattle.batch.specs.declared.answers.Batch.{Batch}
 use Rattle.batch.specs.declared.refusals.Found.{Found}
 use Rattle.batch.specs.Answers.{batchAnswer, batchSchedule, checked}
 use Rattle.batch.specs.Refusals.{check17, checkBatch, checkCall}

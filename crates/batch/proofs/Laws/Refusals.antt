@@ -1,46 +1,44 @@
 -- Laws of what a batch checks: the runs' checks as a loop makes them, what 17 leaves, and which check decides.
 use Prim.Native.Nat.{ℕ, zero, suc, _+_, _*_, _<_, _≤_}
 use mathlib.Core.Bool.{Bool, false, not, true, _||_}
-use mathlib.Core.List.{List}
+use mathlib.Core.List.{List, [], _∷_}
 use mathlib.Core.Logic.{inl, inr, _↔_, _⊎_}
 use mathlib.Core.Path.{ap, ap₂, refl, subst, sym, _∙_, _≡_}
-use native.Mathlib.Decide.{decLt}
 use native.Mathlib.Numerals.{add-one}
 use native.Mathlib.Omega.{arith}
 use lib.Dec.{eqb, ltb}
 use lib.ListN.{length}
-use borrow.Author.Tests.{eq-eqb, eqb-true, le-ltb, lt-ltb, ltb-false}
-use Rattle.tables.specs.declared.outcome.Outcome.{Outcome}
-use Rattle.tables.specs.declared.outcome.Outcome.the-variants.{Done, Refused}
-use Rattle.tables.specs.Refusals.{ascending, before, check2, check3, check4, check9, checkJobs, checkTasks, refuse, unless}
-use Rattle.tables.specs.Tables.{taskCount}
-use Rattle.tables.proofs.Laws.Refusals.{Numbered, ascending-at, before-first, before-second, fine, numbered-ascending, numbered-before, numbered-refuse, refuse-fine}
-use Rattle.tables.proofs.Laws.Small.{Small, small-tasks}
+use borrow.Author.Tests.{eq-eqb, eqb-true, le-ltb, ltb-false}
+use Rattle.bits.proofs.Laws.Bools.{apart}
+use Rattle.tables.specs.declared.answers.Outcome.{Outcome}
+use Rattle.tables.specs.declared.answers.Outcome.the-variants.{Done, Refused}
+use Rattle.tables.specs.Refusals.{ascending, before, check9, checkJobs, checkTasks, refuse, unless}
+use Rattle.tables.proofs.Laws.Refusals.{Numbered, ascending-at, before-first, before-second, fine, numbered-before, numbered-refuse, refuse-fine, tasks-numbered, firstOf, own-refused}
 use Rattle.batch.specs.declared.refusals.Found.{Found}
-use Rattle.batch.specs.Refusals.{check17, checkBatch, checkCall, checkRuns, first, named}
+use Rattle.batch.specs.Refusals.{check17, checkBatch, checkCall, checkRuns, goesFirst, withRun}
 use Rattle.batch.specs.Runs.{jobsBefore, listOf}
 
 -- what was found first decides
-pub named-outcome : (r : ℕ) (o : Outcome) → named r o .outcome ≡ o
-unfolding named
-named-outcome r Done = refl
-named-outcome r (Refused number place) = refl
+pub with-run-outcome : (r : ℕ) (o : Outcome) → withRun r o .outcome ≡ o
+unfolding withRun
+with-run-outcome r Done = refl
+with-run-outcome r (Refused number place) = refl
 
-pub first-outcome : (a b : Found) → first a b .outcome ≡ before (a .outcome) (b .outcome)
-unfolding first unless before
-first-outcome a b = go (a .outcome) refl
+pub goes-first-outcome : (a b : Found) → goesFirst a b .outcome ≡ before (a .outcome) (b .outcome)
+unfolding goesFirst unless before
+goes-first-outcome a b = go (a .outcome) refl
   where
     go : (o : Outcome) → a .outcome ≡ o → unless o (λ (number place : ℕ). a) b .outcome ≡ before o (b .outcome)
     go Done e = refl
     go (Refused number place) e = e
 
-pub first-later : (a b : Found) → a .outcome ≡ Done → first a b ≡ b
-unfolding first unless
-first-later a b e = rw e
+pub goes-first-later : (a b : Found) → a .outcome ≡ Done → goesFirst a b ≡ b
+unfolding goesFirst unless
+goes-first-later a b e = rw e
 
-pub first-keeps : (a b : Found) (number place : ℕ) → a .outcome ≡ Refused number place → first a b ≡ a
-unfolding first unless
-first-keeps a b number place e = rw e
+pub goes-first-keeps : (a b : Found) (number place : ℕ) → a .outcome ≡ Refused number place → goesFirst a b ≡ a
+unfolding goesFirst unless
+goes-first-keeps a b number place e = rw e
 
 module _ (jobs counts : List ℕ) (horizon entries : ℕ) where
   -- what 17 leaves
@@ -49,9 +47,9 @@ module _ (jobs counts : List ℕ) (horizon entries : ℕ) where
     pub listed : jobsBefore counts (length counts) * 3 ≡ length jobs
     pub placed : entries ≡ length counts * horizon
 
-  pub fits : check17 jobs counts horizon entries ≡ Done → Fits
+  pub seventeen-leaves : check17 jobs counts horizon entries ≡ Done → Fits
   unfolding check17
-  fits ok =
+  seventeen-leaves ok =
       let tests = refuse-fine _ _ _ ok in
       record {
         few = search fine;
@@ -71,14 +69,14 @@ module _ (jobs counts : List ℕ) (horizon entries : ℕ) where
       go : (b : Bool) → (ltb 32 (length counts) || (not (eqb (jobsBefore counts (length counts) * 3) (length jobs)) || not (eqb entries (length counts * horizon)))) ≡ b
           → check17 jobs counts horizon entries ≡ Refused 17 0
       go true e = ap (λ (b : Bool). refuse b 17 0) e
-      go false e = absurd (never (fits (ap (λ (b : Bool). refuse b 17 0) e)))
+      go false e = absurd (never (seventeen-leaves (ap (λ (b : Bool). refuse b 17 0) e)))
 
 module _ (tasks jobs counts : List ℕ) where
-  pub checks-none : checkRuns tasks jobs counts 0 ≡ named 0 Done
+  pub checks-none : checkRuns tasks jobs counts 0 ≡ withRun 0 Done
   unfolding checkRuns
   checks-none = refl
 
-  pub checks-more : (r : ℕ) → checkRuns tasks jobs counts (r + 1) ≡ first (checkRuns tasks jobs counts r) (named r (checkJobs tasks (listOf jobs counts r)))
+  pub checks-more : (r : ℕ) → checkRuns tasks jobs counts (r + 1) ≡ goesFirst (checkRuns tasks jobs counts r) (withRun r (checkJobs tasks (listOf jobs counts r)))
   unfolding checkRuns
   checks-more r = rw (add-one, checkRuns)
 
@@ -89,7 +87,7 @@ module _ (tasks jobs counts : List ℕ) where
     call-17 ok = before-second (check9 horizon) _ (before-second (checkTasks tasks) _ ok)
 
     pub call-fits : checkCall tasks jobs counts horizon entries ≡ Done → Fits jobs counts horizon entries
-    call-fits ok = fits jobs counts horizon entries (call-17 ok)
+    call-fits ok = seventeen-leaves jobs counts horizon entries (call-17 ok)
 
     pub call-exactly : checkCall tasks jobs counts horizon entries ≡ Done ↔ (checkTasks tasks ≡ Done) × (horizon ≤ 16384) × Fits jobs counts horizon entries
     unfolding checkCall check9 refuse before
@@ -105,17 +103,18 @@ module _ (tasks jobs counts : List ℕ) where
 
     pub batch-runs : checkCall tasks jobs counts horizon entries ≡ Done → checkBatch tasks jobs counts horizon entries ≡ checkRuns tasks jobs counts (length counts)
     unfolding checkBatch
-    batch-runs ok = first-later _ _ (named-outcome 0 _ ∙ ok)
+    batch-runs ok = goes-first-later _ _ (with-run-outcome 0 _ ∙ ok)
 
     pub batch-call : (number place : ℕ) → checkCall tasks jobs counts horizon entries ≡ Refused number place
-        → checkBatch tasks jobs counts horizon entries ≡ named 0 (Refused number place)
+        → checkBatch tasks jobs counts horizon entries ≡ withRun 0 (Refused number place)
     unfolding checkBatch
-    batch-call number place refuses = first-keeps _ _ number place (named-outcome 0 _ ∙ refuses) ∙ ap (named 0) refuses
+    batch-call number place refuses = goes-first-keeps _ _ number place (with-run-outcome 0 _ ∙ refuses) ∙ ap (withRun 0) refuses
 
     pub batch-passes : checkBatch tasks jobs counts horizon entries .outcome ≡ Done → checkCall tasks jobs counts horizon entries ≡ Done
     unfolding checkBatch
     batch-passes ok =
-        sym (named-outcome 0 (checkCall tasks jobs counts horizon entries)) ∙ before-first _ _ (sym (first-outcome (named 0 (checkCall tasks jobs counts horizon entries)) (checkRuns tasks jobs counts (length counts))) ∙ ok)
+        sym (with-run-outcome 0 (checkCall tasks jobs counts horizon entries))
+        ∙ before-first _ _ (sym (goes-first-outcome (withRun 0 (checkCall tasks jobs counts horizon entries)) (checkRuns tasks jobs counts (length counts))) ∙ ok)
 
 -- which run is refused
 module _ (tasks jobs counts : List ℕ) where
@@ -125,27 +124,27 @@ module _ (tasks jobs counts : List ℕ) where
 
   pub checks-outcome : (n : ℕ) → checkRuns tasks jobs counts n .outcome ≡ ascending n own
   unfolding checkRuns ascending
-  checks-outcome zero = named-outcome 0 Done
+  checks-outcome zero = with-run-outcome 0 Done
   checks-outcome (suc n) =
-      first-outcome (checkRuns tasks jobs counts n) (named n (own n)) ∙ ap₂ before (checks-outcome n) (named-outcome n (own n))
+      goes-first-outcome (checkRuns tasks jobs counts n) (withRun n (own n)) ∙ ap₂ before (checks-outcome n) (with-run-outcome n (own n))
 
   pub checks-each : (n : ℕ) → checkRuns tasks jobs counts n .outcome ≡ Done → (r : ℕ) → r < n → own r ≡ Done
   checks-each n ok r l = ascending-at own n r l (sym (checks-outcome n) ∙ ok)
 
   pub checks-pass : (n : ℕ) → ((r : ℕ) → r < n → own r ≡ Done) → checkRuns tasks jobs counts n .outcome ≡ Done
   unfolding checkRuns before
-  checks-pass zero each = named-outcome 0 Done
+  checks-pass zero each = with-run-outcome 0 Done
   checks-pass (suc n) each =
-      first-outcome (checkRuns tasks jobs counts n) (named n (own n))
-      ∙ ap₂ before (checks-pass n (λ r l. each r (omega arith))) (named-outcome n (own n) ∙ each n (omega arith))
+      goes-first-outcome (checkRuns tasks jobs counts n) (withRun n (own n))
+      ∙ ap₂ before (checks-pass n (λ r l. each r (omega arith))) (with-run-outcome n (own n) ∙ each n (omega arith))
 
   pub checks-zero : (n : ℕ) → checkRuns tasks jobs counts n .outcome ≡ Done → checkRuns tasks jobs counts n .run ≡ 0
-  unfolding checkRuns named
+  unfolding checkRuns withRun
   checks-zero zero ok = refl
   checks-zero (suc n) ok =
-      let both = sym (first-outcome (checkRuns tasks jobs counts n) (named n (own n))) ∙ ok in
-      let last = sym (named-outcome n (own n)) ∙ before-second (checkRuns tasks jobs counts n .outcome) _ both in
-      ap (λ (x : Found). x .run) (first-later (checkRuns tasks jobs counts n) (named n (own n)) (before-first _ (named n (own n) .outcome) both) ∙ ap (named n) last)
+      let both = sym (goes-first-outcome (checkRuns tasks jobs counts n) (withRun n (own n))) ∙ ok in
+      let last = sym (with-run-outcome n (own n)) ∙ before-second (checkRuns tasks jobs counts n .outcome) _ both in
+      ap (λ (x : Found). x .run) (goes-first-later (checkRuns tasks jobs counts n) (withRun n (own n)) (before-first _ (withRun n (own n) .outcome) both) ∙ ap (withRun n) last)
 
   -- run r is the first that is refused, of n
   pub record FirstFound (n number place r : ℕ) : Type 0 where
@@ -154,58 +153,41 @@ module _ (tasks jobs counts : List ℕ) where
     pub earlier : (i : ℕ) → i < r → own i ≡ Done
 
   pub checks-run : (n number place : ℕ) → checkRuns tasks jobs counts n .outcome ≡ Refused number place → FirstFound n number place (checkRuns tasks jobs counts n .run)
-  unfolding checkRuns named
-  checks-run zero number place says = let z : _≡_ {A = ℕ} 0 1 = cc in absurd (omega arith)
+  unfolding checkRuns withRun
+  checks-run zero number place says = apart (cc)
   checks-run (suc n) number place says = go (checkRuns tasks jobs counts n .outcome) refl (checks-run n)
     where
       go : (o : Outcome) → checkRuns tasks jobs counts n .outcome ≡ o
           → ((x y : ℕ) → checkRuns tasks jobs counts n .outcome ≡ Refused x y → FirstFound n x y (checkRuns tasks jobs counts n .run))
-          → FirstFound (suc n) number place (first (checkRuns tasks jobs counts n) (named n (own n)) .run)
+          → FirstFound (suc n) number place (goesFirst (checkRuns tasks jobs counts n) (withRun n (own n)) .run)
       go Done e ih =
-          let last = first-later (checkRuns tasks jobs counts n) (named n (own n)) e in
-          let refuses = sym (named-outcome n (own n)) ∙ ap (λ (x : Found). x .outcome) (sym last) ∙ says in
-          let at : first (checkRuns tasks jobs counts n) (named n (own n)) .run ≡ n = ap (λ (x : Found). x .run) (last ∙ ap (named n) refuses) in
+          let last = goes-first-later (checkRuns tasks jobs counts n) (withRun n (own n)) e in
+          let refuses = sym (with-run-outcome n (own n)) ∙ ap (λ (x : Found). x .outcome) (sym last) ∙ says in
+          let at : goesFirst (checkRuns tasks jobs counts n) (withRun n (own n)) .run ≡ n = ap (λ (x : Found). x .run) (last ∙ ap (withRun n) refuses) in
           subst (FirstFound (suc n) number place) (sym at) (record { there = omega arith; here = refuses; earlier = checks-each n e })
       go (Refused x y) e ih =
-          let kept = first-keeps (checkRuns tasks jobs counts n) (named n (own n)) x y e in
+          let kept = goes-first-keeps (checkRuns tasks jobs counts n) (withRun n (own n)) x y e in
           let w = ih number place (ap (λ (x : Found). x .outcome) (sym kept) ∙ says) in
           subst (FirstFound (suc n) number place) (ap (λ (x : Found). x .run) (sym kept))
           (record { there = omega (arith, w .there); here = w .here; earlier = w .earlier })
 
 -- not from 5 to 8
-abbrev pub Whole : ℕ → Type 0
-Whole number = (number ≤ 4) ⊎ (9 ≤ number)
+abbrev pub CallNumber : ℕ → Type 0
+CallNumber number = (number ≤ 4) ⊎ (9 ≤ number)
 
 -- the refusals of the call as a whole are 2 to 4, 9 and 17
-pub call-numbered : (tasks jobs counts : List ℕ) (horizon entries : ℕ) → Numbered Whole (checkCall tasks jobs counts horizon entries)
-unfolding checkCall checkTasks check2 check3 check4 check9 check17
+pub call-numbered : (tasks jobs counts : List ℕ) (horizon entries : ℕ) → Numbered CallNumber (checkCall tasks jobs counts horizon entries)
+unfolding checkCall check9 check17
 call-numbered tasks jobs counts horizon entries =
-    numbered-before Whole (checkTasks tasks) _
-    (numbered-before Whole (check2 tasks) _ (numbered-refuse Whole _ 2 0 (inl (omega arith)))
-    (numbered-ascending Whole _ (taskCount tasks)
-    (λ k. numbered-before Whole (check3 tasks k) (check4 tasks k) (numbered-refuse Whole _ 3 k (inl (omega arith))) (numbered-refuse Whole _ 4 k (inl (omega arith))))))
-    (numbered-before Whole (check9 horizon) _ (numbered-refuse Whole _ 9 0 (inr (omega arith))) (numbered-refuse Whole _ 17 0 (inr (omega arith))))
+    numbered-before CallNumber (checkTasks tasks) _ (tasks-numbered CallNumber (λ number least most. inl (omega arith)) tasks)
+    (numbered-before CallNumber (check9 horizon) _ (numbered-refuse CallNumber _ 9 0 (inr (omega arith))) (numbered-refuse CallNumber _ 17 0 (inr (omega arith))))
 
 -- 17 is found only where the table and the horizon are accepted, and the lists do not fit
 pub call-seventeen : (tasks jobs counts : List ℕ) (horizon entries place : ℕ) → checkCall tasks jobs counts horizon entries ≡ Refused 17 place
     → (checkTasks tasks ≡ Done) × (horizon ≤ 16384) × (Fits jobs counts horizon entries → ⊥)
-unfolding checkCall check9 refuse before
-call-seventeen tasks jobs counts horizon entries place says = go (checkTasks tasks) refl (small-tasks tasks) (decLt 16384 horizon)
-  where
-    go : (t : Outcome) → checkTasks tasks ≡ t → Small t → Dec (16384 < horizon) → (checkTasks tasks ≡ Done) × (horizon ≤ 16384) × (Fits jobs counts horizon entries → ⊥)
-    go (Refused n p) e w d =
-        let same : Refused n p ≡ Refused 17 place = rw e at says in
-        let z : n ≡ 17 = cc in
-        absurd (omega (arith, w .1, z))
-    go Done e w (yes l) =
-        let same : Refused 9 0 ≡ Refused 17 place = rw (e, lt-ltb 16384 horizon l) at says in
-        let z : _≡_ {A = ℕ} 9 17 = cc in
-        absurd (omega arith)
-    go Done e w (no l) = (
-      e,
-      omega arith,
-      λ f.
-          let fine = call-exactly tasks jobs counts horizon entries .1 (e, omega arith, f) in
-          let z : _≡_ {A = ℕ} 0 1 = cc in
-          omega arith,
-    )
+unfolding checkCall check9 firstOf
+call-seventeen tasks jobs counts horizon entries place says =
+    let w = own-refused (checkTasks tasks ∷ check9 horizon ∷ []) (check17 jobs counts horizon entries) [] 17 place
+    (tasks-numbered _ (λ number least most e. omega arith) tasks, (numbered-refuse _ _ 9 0 (λ e. omega arith), tt)) tt .0 says in
+    let short : horizon ≤ 16384 = ltb-false 16384 horizon (refuse-fine _ 9 0 (w .0 .1 .0)) in
+    (w .0 .0, short, λ f. let fine = call-exactly tasks jobs counts horizon entries .1 (w .0 .0, short, f) in apart (cc))

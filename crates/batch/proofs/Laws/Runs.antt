@@ -10,20 +10,22 @@ use lib.ListN.{drop, getD, getD-replicate, length, length-append, length-drop, l
 use lib.Seq.{drop-append-le, drop-at, drop-drop, drop-length, take-add, take-all, take-append-le, take-at}
 use borrow.Author.Tests.{le-ltb, lt-ltb}
 use borrow.Rule.Slice.PartMut.{putMid}
-use Rattle.bits.proofs.Arrays.{Written, written-all, written-more, written-none}
-use Rattle.bits.proofs.Below.{getD-list, last-or-below}
-use Rattle.tables.specs.declared.outcome.Outcome.{Outcome}
-use Rattle.tables.specs.declared.outcome.Outcome.the-variants.{Done, Refused}
+use Rattle.bits.proofs.Laws.Arrays.{Written, written-all, written-more, written-none}
+use Rattle.bits.proofs.Laws.Below.{getD-list, last-or-below}
+use Rattle.tables.specs.declared.answers.Outcome.{Outcome}
+use Rattle.tables.specs.declared.answers.Outcome.the-variants.{Done, Refused}
+use Rattle.tables.specs.Refusals.{checkSchedule}
+use Rattle.tables.proofs.Laws.Accepted.{accepted}
 use Rattle.zsrm.specs.declared.answers.Ran.{Ran}
 use Rattle.zsrm.specs.declared.record.Record.{Record}
 use Rattle.zsrm.specs.declared.tie.Tie.{Tie}
 use Rattle.zsrm.specs.declared.tie.Tie.the-variants.{Lowest}
-use Rattle.zsrm.specs.Answers.{checkSchedule, runAnswer, runSchedule}
+use Rattle.zsrm.specs.Answers.{runAnswer, runSchedule}
 use Rattle.zsrm.specs.Given.{Given, given}
 use Rattle.zsrm.specs.Record.{blank}
-use Rattle.zsrm.proofs.Laws.Answers.{accepted, run-given, run-keeps}
+use Rattle.zsrm.proofs.Laws.Answers.{run-given, run-keeps}
 use Rattle.zsrm.proofs.Laws.Run.{length-run}
-use Rattle.batch.specs.Runs.{Offer, givenOf, jobsBefore, listOf, placeOf, recordAt, recordOf, recordsOf, scheduleOf, schedulesOf}
+use Rattle.batch.specs.Runs.{Offer, givenOf, jobsBefore, listOf, placeOf, recordOrBlank, recordOf, recordsOf, scheduleOf, schedulesOf}
 use Rattle.batch.proofs.Laws.Refusals.{Fits}
 
 module _ (counts : List ℕ) where
@@ -97,13 +99,13 @@ placed-behind xs ys s a h e =
 
 module _ (o : Offer) (lent : List ℕ) where
   -- The first r runs are made: their schedules stand one behind another, their records at their numbers.
-  pub record Made (schedule : List ℕ) (records : List Record) (from at r : ℕ) : Type 0 where
+  pub record RunsMade (schedule : List ℕ) (records : List Record) (from at r : ℕ) : Type 0 where
     pub listed : from ≡ jobsBefore (o .counts) r * 3
     pub placed : at ≡ r * o .horizon
     pub wrote : schedule ≡ schedulesOf o lent r ++ drop at lent
-    pub kept : Written blank (recordAt o lent (length (o .counts))) (replicate 32 blank) records 32 r
+    pub kept : Written blank (recordOrBlank o lent (length (o .counts))) (replicate 32 blank) records 32 r
 
-  pub made-none : Made lent (replicate 32 blank) 0 0 0
+  pub made-none : RunsMade lent (replicate 32 blank) 0 0 0
   unfolding schedulesOf
   made-none =
       record {
@@ -114,7 +116,7 @@ module _ (o : Offer) (lent : List ℕ) where
       }
 
   module _ (room : Fits (o .jobs) (o .counts) (o .horizon) (length lent)) where
-    module _ {schedule : List ℕ} {records : List Record} {from at r : ℕ} (w : Made schedule records from at r) where
+    module _ {schedule : List ℕ} {records : List Record} {from at r : ℕ} (w : RunsMade schedule records from at r) where
       pub made-list : r < length (o .counts) → from + getD (o .counts) r 0 * 3 ≤ length (o .jobs)
       made-list l = omega (arith, w .listed, list-ends (o .jobs) (o .counts) (room .listed) r l)
 
@@ -135,8 +137,8 @@ module _ (o : Offer) (lent : List ℕ) where
       pub made-more : (numbers : ℕ) (own : Ran) (entries : List ℕ) → r < length (o .counts) → numbers ≡ getD (o .counts) r 0 * 3
           → own ≡ runAnswer (given (o .mode) (o .tasks) (take ((from + numbers) - from) (drop from (o .jobs)))) Lowest (o .horizon) (take ((at + o .horizon) - at) (drop at schedule))
           → entries ≡ runSchedule (given (o .mode) (o .tasks) (take ((from + numbers) - from) (drop from (o .jobs)))) Lowest (o .horizon) (take ((at + o .horizon) - at) (drop at schedule))
-          → Made (putMid at ((at + o .horizon) - at) schedule entries) (set records r (own .«record»)) (from + numbers) (at + o .horizon) (r + 1)
-      unfolding schedulesOf scheduleOf recordAt recordOf givenOf
+          → RunsMade (putMid at ((at + o .horizon) - at) schedule entries) (set records r (own .«record»)) (from + numbers) (at + o .horizon) (r + 1)
+      unfolding schedulesOf scheduleOf recordOrBlank recordOf givenOf
       made-more numbers own entries l size answers writes =
           let list = list-is (o .jobs) (o .counts) r from numbers (w .listed) size in
           let more = jobs-more (o .counts) r in
@@ -149,7 +151,7 @@ module _ (o : Offer) (lent : List ℕ) where
                 ∙ placed-behind (schedulesOf o lent r) (scheduleOf o lent r) lent at (o .horizon) (behind (omega arith))
                 ∙ ap (λ (n : ℕ). schedulesOf o lent n ++ drop (at + o .horizon) lent) (sym (add-one r));
             kept =
-                written-more blank (recordAt o lent (length (o .counts))) (replicate 32 blank) records 32 r (own .«record») (w .kept) (omega (arith, room .few))
+                written-more blank (recordOrBlank o lent (length (o .counts))) (replicate 32 blank) records 32 r (own .«record») (w .kept) (omega (arith, room .few))
                 (rw (lt-ltb r (length (o .counts)) l)
                 (ap (λ (x : Ran). x .«record») (answers ∙ ap₂ (λ (js es : List ℕ). runAnswer (given (o .mode) (o .tasks) js) Lowest (o .horizon) es) list (place-is l))));
           }
@@ -157,9 +159,9 @@ module _ (o : Offer) (lent : List ℕ) where
       -- all runs are made
       module _ (all : r ≡ length (o .counts)) where
         pub made-records : records ≡ recordsOf o lent (length (o .counts))
-        unfolding recordsOf recordAt
+        unfolding recordsOf recordOrBlank
         made-records =
-            written-all blank (recordAt o lent (length (o .counts))) (replicate 32 blank) records 32 r (w .kept)
+            written-all blank (recordOrBlank o lent (length (o .counts))) (replicate 32 blank) records 32 r (w .kept)
             (λ k l m. getD-replicate 32 k blank blank m ∙ rw (le-ltb k (length (o .counts)) (omega arith)))
 
         pub made-schedules : schedule ≡ schedulesOf o lent (length (o .counts))
@@ -212,10 +214,10 @@ module _ (o : Offer) (lent : List ℕ) where
           ∙ ih m fits
 
   -- a run's record at its number, and blank ones behind
-  pub record-at : (n r : ℕ) (d : Record) → r < n → r < 32 → getD (recordsOf o lent n) r d ≡ recordOf o lent r
-  unfolding recordsOf recordAt
-  record-at n r d l m = getD-list 32 (recordAt o lent n) r d m ∙ rw (lt-ltb r n l)
+  pub record-or-blank : (n r : ℕ) (d : Record) → r < n → r < 32 → getD (recordsOf o lent n) r d ≡ recordOf o lent r
+  unfolding recordsOf recordOrBlank
+  record-or-blank n r d l m = getD-list 32 (recordOrBlank o lent n) r d m ∙ rw (lt-ltb r n l)
 
   pub record-none : (n r : ℕ) (d : Record) → n ≤ r → r < 32 → getD (recordsOf o lent n) r d ≡ blank
-  unfolding recordsOf recordAt
-  record-none n r d l m = getD-list 32 (recordAt o lent n) r d m ∙ rw (le-ltb r n l)
+  unfolding recordsOf recordOrBlank
+  record-none n r d l m = getD-list 32 (recordOrBlank o lent n) r d m ∙ rw (le-ltb r n l)

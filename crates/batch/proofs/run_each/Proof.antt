@@ -17,17 +17,22 @@ returns c =
     let told = c .before .before .before .before in
     let found = told .before .before .check-batch in
     let a = told .before .before .before .before .before .before .before .args in
-    let o = offer (a .mode) (a .tasks .now) (a .jobs .now) (a .counts .now) (a .horizon) in
-    (answer-done o (a .schedule .now) _ (found .ensures) (told .enum-told .given .1) _ (ran .ensures .0), schedule-done o (a .schedule .now) _ (found .ensures) (told .enum-told .given .1) _ (ran .ensures .1))
+    let o = offer (a .mode) (a .tasks .now) (a .jobs .now) (a .counts .now) (a .horizon) in (
+      answer-done o (a .schedule .now) _ (found .ensures) (told .enum-told .given .1) _ (ran .ensures .0),
+      schedule-done o (a .schedule .now) _ (found .ensures) (told .enum-told .given .1) _ (ran .ensures .1),
+    )
 
 returns-2 : tie.Need-returns-2
 returns-2 c =
     let told = c .before .before in
     let found = told .before .before .check-batch in
     let a = told .before .before .before .before .before .before .before .args in
-    let o = offer (a .mode) (a .tasks .now) (a .jobs .now) (a .counts .now) (a .horizon) in
-    (answer-refused o (a .schedule .now) _ (found .ensures) _ _ (told .outcome .given .1) _ (c .no-records .ensures), schedule-kept o (a .schedule .now) _ (found .ensures) _ _ (told .outcome .given .1))
+    let o = offer (a .mode) (a .tasks .now) (a .jobs .now) (a .counts .now) (a .horizon) in (
+      answer-refused o (a .schedule .now) _ (found .ensures) _ _ (told .outcome .given .1) _ (c .no-records .ensures),
+      schedule-kept o (a .schedule .now) _ (found .ensures) _ _ (told .outcome .given .1),
+    )
 
 pub run-each-spec : {M : Type 1} → statement M
 run-each-spec =
-    tie.close (tie.spec (λ c κs. search needs) (λ c. search needs) run-lists-requires (λ c. search needs) (λ c κs. search needs) (λ c. search needs) returns returns-2)
+    tie.close
+    (tie.spec (λ c κs. search needs) (λ c. search needs) run-lists-requires (λ c. search needs) (λ c κs. search needs) (λ c. search needs) returns returns-2)

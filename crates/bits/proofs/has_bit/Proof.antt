@@ -3,16 +3,12 @@ use mathlib.Core.Path.{refl, sym}
 use native.Mathlib.Omega.{arith}
 use borrow.Author.Needs.{needs}
 use Rattle.bits.specs.Below.{bit}
-use Rattle.bits.proofs.Word.{bit-above}
+use Rattle.bits.proofs.Laws.Word.{bit-above}
 use Rattle.bits.proofs.has_bit.Statement.{statement}
 use Rattle.bits.proofs.has_bit.Tie as tie
 
-returns : tie.Need-returns
-unfolding bit
-returns c = refl
-
 pub has-bit-spec : {M : Type 1} → statement M
+unfolding bit
 has-bit-spec =
     tie.close
-    (tie.spec (λ c. search needs) returns
-    (λ c. sym (bit-above (c .before .args .w) 64 (c .before .args .p) (c .before .fits .w .fits) (omega arith))))
+    (tie.spec (λ c. search needs) (λ c. refl) (λ c. sym (bit-above (c .before .args .w) 64 (c .before .args .p) (c .before .fits .w .fits) (omega arith))))

@@ -3,18 +3,12 @@
 use mathlib.Core.Path.{sym}
 use native.Mathlib.Omega.{arith}
 use borrow.Author.Needs.{needs}
-use Rattle.bits.proofs.Word.{withBit-or, withBit-above}
+use Rattle.bits.proofs.Laws.Word.{withBit-or, withBit-above}
 use Rattle.bits.proofs.with_bit.Statement.{statement}
 use Rattle.bits.proofs.with_bit.Tie as tie
 
-shl-result : tie.Need-shl-result
-shl-result c = search needs
-
-returns : tie.Need-returns
-returns c = withBit-or (c .before .args .w) (c .before .args .p) (c .before .fits .w .fits) (omega arith)
-
-returns-2 : tie.Need-returns-2
-returns-2 c = sym (withBit-above (c .before .args .w) (c .before .args .p) (c .before .fits .w .fits) (omega arith))
-
 pub with-bit-spec : {M : Type 1} → statement M
-with-bit-spec = tie.close (tie.spec shl-result returns returns-2)
+with-bit-spec =
+    tie.close
+    (tie.spec (λ c. search needs) (λ c. withBit-or (c .before .args .w) (c .before .args .p) (c .before .fits .w .fits) (omega arith))
+    (λ c. sym (withBit-above (c .before .args .w) (c .before .args .p) (c .before .fits .w .fits) (omega arith))))

@@ -1,5 +1,5 @@
 -- `bits::without` meets its contract: what is in v and in w is taken out of v.
-use Rattle.bits.proofs.Word.{without-xor}
+use Rattle.bits.proofs.Laws.Word.{without-xor}
 use Rattle.bits.proofs.without.Statement.{statement}
 use Rattle.bits.proofs.without.Tie as tie
 

@@ -1,27 +1,26 @@
 -- Laws of an append as the code makes it: its checks, its bytes, its answer.
 use Prim.Native.Nat.{ℕ, _+_, _-_, _*_, _/_, _<_, _≤_}
 use mathlib.Core.Bool.{true, _||_}
-use mathlib.Core.List.{List, _++_}
+use mathlib.Core.List.{List, _++_, [], _∷_}
 use mathlib.Core.Path.{ap, sym, _∙_, _≡_}
 use native.Mathlib.Omega.{arith}
 use lib.Dec.{eqb, ltb}
 use lib.ListN.{length}
 use lib.Seq.{sets}
 use borrow.Author.Tests.{eq-eqb, lt-ltb, ltb-false, ltb-true, ne-eqb}
-use Rattle.bits.proofs.Bools.{by-cond, or-left-false, or-right-false, same-test}
-use Rattle.tables.specs.declared.outcome.Outcome.{Outcome}
-use Rattle.tables.specs.declared.outcome.Outcome.the-variants.{Done, Refused}
-use Rattle.tables.specs.Refusals.{before}
-use Rattle.tables.proofs.Laws.Refusals.{before-first, before-second, refuse-fine, unless-done, unless-refused}
+use Rattle.bits.proofs.Laws.Bools.{by-cond, or-left-false, or-right-false, same-test}
+use Rattle.tables.specs.declared.answers.Outcome.{Outcome}
+use Rattle.tables.specs.declared.answers.Outcome.the-variants.{Done, Refused}
+use Rattle.tables.proofs.Laws.Bytes.{put-behind}
+use Rattle.tables.proofs.Laws.Refusals.{refuse-fine, unless-done, unless-refused, all-done, firstOf}
 use Rattle.chain.specs.declared.answers.Appended.the-variants as appends
 use Rattle.chain.specs.declared.layout.Layout.{Layout}
 use Rattle.chain.specs.declared.layout.Layout.the-variants.{Two}
 use Rattle.chain.specs.Answers.{appendAnswer, appendFile, newTrailer}
-use Rattle.chain.specs.Bytes.{bytesOf}
+use Rattle.tables.specs.Bytes.{bytesOf}
 use Rattle.chain.specs.Refusals.{check24, checkAppend, checkLast, checkTrailer, endAfter}
 use Rattle.chain.specs.Table.{checkTable}
 use Rattle.chain.specs.Trailer.{lastPlace, none, trailerNumbers}
-use Rattle.chain.proofs.Laws.Bytes.{put-behind}
 
 -- ## The last trailer
 
@@ -84,26 +83,22 @@ module _ (layout : Layout) (file : List ℕ) (used : ℕ) (table : List ℕ) whe
     pub space : Room (length file) used (length table)
 
   pub accepted : checkAppend layout file used table ≡ Done → Accepted
-  unfolding checkAppend
+  unfolding checkAppend firstOf
   accepted ok =
-      let rest = before-second (checkLast file used) (before (checkTable layout table) (check24 (length file) used (length table))) ok in
-      record {
-        last = before-first (checkLast file used) (before (checkTable layout table) (check24 (length file) used (length table))) ok;
-        numbers = before-first (checkTable layout table) (check24 (length file) used (length table)) rest;
-        space = room (length file) used (length table) (before-second (checkTable layout table) (check24 (length file) used (length table)) rest);
-      }
+      let w = all-done (checkLast file used ∷ checkTable layout table ∷ check24 (length file) used (length table) ∷ []) .0 ok in
+      record { last = w .0; numbers = w .1 .0; space = room (length file) used (length table) (w .1 .1 .0) }
 
   -- what is written
-  abbrev pub written : List ℕ
-  written = table ++ trailerNumbers (newTrailer layout used (length table))
+  abbrev pub appendedNumbers : List ℕ
+  appendedNumbers = table ++ trailerNumbers (newTrailer layout used (length table))
 
-  pub written-both : (middle after trailer : List ℕ) (at : ℕ) → after ≡ sets middle at (bytesOf trailer) → middle ≡ sets file used (bytesOf table)
-      → at ≡ used + length table * 4 → trailer ≡ trailerNumbers (newTrailer layout used (length table)) → after ≡ sets file used (bytesOf written)
+  pub written-both : (middle after trailer : List ℕ) (at : ℕ) → after ≡ sets middle at (bytesOf 4 trailer) → middle ≡ sets file used (bytesOf 4 table)
+      → at ≡ used + length table * 4 → trailer ≡ trailerNumbers (newTrailer layout used (length table)) → after ≡ sets file used (bytesOf 4 appendedNumbers)
   written-both middle after trailer at second first behind its =
-      second ∙ ap (λ (f : List ℕ). sets f at (bytesOf trailer)) first
-      ∙ ap (λ (n : ℕ). sets (sets file used (bytesOf table)) n (bytesOf trailer)) behind
-      ∙ put-behind file table trailer used
-      ∙ ap (λ (ts : List ℕ). sets file used (bytesOf (table ++ ts))) its
+      second ∙ ap (λ (f : List ℕ). sets f at (bytesOf 4 trailer)) first
+      ∙ ap (λ (n : ℕ). sets (sets file used (bytesOf 4 table)) n (bytesOf 4 trailer)) behind
+      ∙ put-behind 4 file table trailer used
+      ∙ ap (λ (ts : List ℕ). sets file used (bytesOf 4 (table ++ ts))) its
 
   module _ (found : Outcome) (is : found ≡ checkAppend layout file used table) where
     pub found-accepted : found ≡ Done → Accepted
@@ -114,10 +109,10 @@ module _ (layout : Layout) (file : List ℕ) (used : ℕ) (table : List ℕ) whe
     answers-used end ok e =
         ap appends.Used e ∙ sym (unless-done appends.Refused (appends.Used (endAfter used (length table))) (checkAppend layout file used table) (sym is ∙ ok))
 
-    pub writes-both : (after : List ℕ) → found ≡ Done → after ≡ sets file used (bytesOf written) → after ≡ appendFile layout file used table
+    pub writes-both : (after : List ℕ) → found ≡ Done → after ≡ sets file used (bytesOf 4 appendedNumbers) → after ≡ appendFile layout file used table
     unfolding appendFile
     writes-both after ok e =
-        e ∙ sym (unless-done (λ (number place : ℕ). file) (sets file used (bytesOf written)) (checkAppend layout file used table) (sym is ∙ ok))
+        e ∙ sym (unless-done (λ (number place : ℕ). file) (sets file used (bytesOf 4 appendedNumbers)) (checkAppend layout file used table) (sym is ∙ ok))
 
     pub answers-refused : (number place : ℕ) → found ≡ Refused number place → appends.Refused number place ≡ appendAnswer layout file used table
     unfolding appendAnswer
@@ -127,4 +122,4 @@ module _ (layout : Layout) (file : List ℕ) (used : ℕ) (table : List ℕ) whe
     pub writes-nothing : (number place : ℕ) → found ≡ Refused number place → file ≡ appendFile layout file used table
     unfolding appendFile
     writes-nothing number place e =
-        sym (unless-refused (λ (number place : ℕ). file) (sets file used (bytesOf written)) (checkAppend layout file used table) number place (sym is ∙ e))
+        sym (unless-refused (λ (number place : ℕ). file) (sets file used (bytesOf 4 appendedNumbers)) (checkAppend layout file used table) number place (sym is ∙ e))

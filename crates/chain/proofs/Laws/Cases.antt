@@ -1,23 +1,24 @@
 -- Laws that say which check decides: of what is read, and of an append.
 use Prim.Native.Nat.{ℕ, _+_, _-_, _*_, _<_, _≤_}
-use mathlib.Core.Bool.{Bool, false, true, not, _||_}
-use mathlib.Core.List.{List}
-use mathlib.Core.Logic.{inl, inr, _↔_, _⊎_, ⊎-elim}
+use mathlib.Core.Bool.{false, not, _||_}
+use mathlib.Core.List.{List, [], _∷_}
+use mathlib.Core.Logic.{inl, inr, _↔_, _⊎_, ⊎-elim, Iff·trans}
 use mathlib.Core.Path.{ap, refl, subst, sym, _∙_, _≡_}
 use native.Mathlib.Decide.{decLt, ℕ-discrete}
 use native.Mathlib.Omega.{arith}
 use lib.Dec.{lit≤, ltb}
 use lib.ListN.{getD, length, replicate, List·getD-eq-default}
-use borrow.Author.Tests.{eq-eqb, eqb-true, le-ltb, lt-ltb, ltb-true, not-false}
+use borrow.Author.Tests.{eq-eqb, eqb-true, le-ltb, not-false}
 use Rattle.bits.specs.Below.{listFrom}
-use Rattle.bits.proofs.Below.{getD-list, length-listFrom}
-use Rattle.bits.proofs.Bools.{or-cases, or-left, or-right}
-use Rattle.tables.specs.declared.outcome.Outcome.{Outcome}
-use Rattle.tables.specs.declared.outcome.Outcome.the-variants.{Done, Refused}
+use Rattle.bits.proofs.Laws.Below.{getD-list, length-listFrom}
+use Rattle.bits.proofs.Laws.Bools.{apart}
+use Rattle.bits.proofs.Readings.{lt-reads, or-reads}
+use Rattle.tables.specs.declared.answers.Outcome.{Outcome}
+use Rattle.tables.specs.declared.answers.Outcome.the-variants.{Done, Refused}
 use Rattle.tables.specs.Bytes.{numberAt}
-use Rattle.tables.specs.Refusals.{before, check2, check3, check4, checkTasks, refuse, unless}
-use Rattle.tables.specs.Tables.{taskCount}
-use Rattle.tables.proofs.Laws.Refusals.{Numbered, numbered-ascending, numbered-before, numbered-refuse}
+use Rattle.tables.specs.Refusals.{before, checkTasks, refuse, unless}
+use Rattle.tables.proofs.Laws.Bytes.{number4}
+use Rattle.tables.proofs.Laws.Refusals.{Numbered, numbered-before, numbered-refuse, only-refuse, refused-number, tasks-numbered, Other, firstOf, other-none, own-refused}
 use Rattle.tables.proofs.Readings.{before-refused, refuse-reads}
 use Rattle.chain.specs.declared.answers.Appended.{Appended}
 use Rattle.chain.specs.declared.answers.Appended.the-variants as appends
@@ -27,71 +28,58 @@ use Rattle.chain.specs.declared.layout.Known.the-variants.{Is, Unknown}
 use Rattle.chain.specs.declared.layout.Layout.{Layout}
 use Rattle.chain.specs.declared.layout.Layout.the-variants.{One, Two}
 use Rattle.chain.specs.declared.trailer.Trailer.{Trailer}
-use Rattle.chain.specs.Answers.{appendAnswer, lastAnswer, nothing, passed, readAnswer, readAt, readTable, readTrailer, shown}
+use Rattle.chain.specs.Answers.{appendAnswer, lastAnswer, nothing, passedBy, readAnswer, readAt, readTable, readTrailer, shown}
 use Rattle.chain.specs.Layout.{known, width}
 use Rattle.chain.specs.Refusals.{check21, check22, check24, checkAppend, checkLast, checkShown, checkTrailer, endAfter}
 use Rattle.chain.specs.Table.{checkTable, padded, tableOf, unlabelled}
-use Rattle.chain.specs.Trailer.{endOf, lastPlace, misfits, trailerAt}
+use Rattle.chain.specs.Trailer.{lastPlace, misfits, trailerAt}
 use Rattle.chain.proofs.Laws.Appending.{Accepted, Room, last-checked, last-is, new-checked}
 use Rattle.chain.proofs.Laws.Reading.{of-either, read-nothing, read-trailer}
-use Rattle.chain.proofs.Laws.Refusals.{Kept, Whole, keeps, kept, whole, wholly}
+use Rattle.chain.proofs.Laws.Refusals.{Kept, WholeTrailer, kept-passes, places-kept, whole-trailer, wholly}
 use Rattle.chain.proofs.Laws.Season.{refused-by, took}
 use Rattle.chain.proofs.Laws.Table.{length-numbers}
 
 -- ## 21 and 22
 
-refused-number : (b : Bool) (x y number place : ℕ) → refuse b x y ≡ Refused number place → (number ≡ x) × (place ≡ y)
-unfolding refuse
-refused-number true x y number place e = (cc, cc)
-refused-number false x y number place e = let z : _≡_ {A = ℕ} 0 1 = cc in absurd (omega arith)
-
-unwhole : (bytes used at : ℕ) → (Whole bytes used at → ⊥) → check21 bytes used at ≡ Refused 21 0
-unfolding check21 refuse
-unwhole bytes used at never = go (ltb bytes used || ltb used (at + 16)) refl
-  where
-    go : (b : Bool) → (ltb bytes used || ltb used (at + 16)) ≡ b → check21 bytes used at ≡ Refused 21 0
-    go true e = ap (λ (b : Bool). refuse b 21 0) e
-    go false e = absurd (never (whole bytes used at (ap (λ (b : Bool). refuse b 21 0) e)))
+unwhole : (bytes used at : ℕ) → (WholeTrailer bytes used at → ⊥) → check21 bytes used at ≡ Refused 21 0
+unfolding check21
+unwhole bytes used at never = only-refuse _ 21 0 (λ ok. never (whole-trailer bytes used at ok))
 
 unkept : (reader : Layout) (t : Trailer) (at : ℕ) → (Kept reader t at → ⊥) → check22 reader t at ≡ Refused 22 0
-unfolding check22 refuse
-unkept reader t at never = go (ltb (t .start) (endOf (t .before)) || ltb at (t .start) || misfits (known reader (t .layout)) t at) refl
-  where
-    go : (b : Bool) → (ltb (t .start) (endOf (t .before)) || ltb at (t .start) || misfits (known reader (t .layout)) t at) ≡ b → check22 reader t at ≡ Refused 22 0
-    go true e = ap (λ (b : Bool). refuse b 22 0) e
-    go false e = absurd (never (kept reader t at (ap (λ (b : Bool). refuse b 22 0) e)))
+unfolding check22
+unkept reader t at never = only-refuse _ 22 0 (λ ok. never (places-kept reader t at ok))
 
 module _ (reader : Layout) (file : List ℕ) (used at : ℕ) where
-  pub trailer-21 : (Whole (length file) used at → ⊥) → checkTrailer reader file used at ≡ Refused 21 0
+  pub trailer-21 : (WholeTrailer (length file) used at → ⊥) → checkTrailer reader file used at ≡ Refused 21 0
   unfolding checkTrailer before
   trailer-21 never = rw (unwhole (length file) used at never)
 
-  pub trailer-22 : Whole (length file) used at → (Kept reader (trailerAt file at) at → ⊥) → checkTrailer reader file used at ≡ Refused 22 0
+  pub trailer-22 : WholeTrailer (length file) used at → (Kept reader (trailerAt file at) at → ⊥) → checkTrailer reader file used at ≡ Refused 22 0
   unfolding checkTrailer before
   trailer-22 w never = rw (wholly (length file) used at w) (unkept reader (trailerAt file at) at never)
 
-  pub trailer-done : Whole (length file) used at → Kept reader (trailerAt file at) at → checkTrailer reader file used at ≡ Done
+  pub trailer-done : WholeTrailer (length file) used at → Kept reader (trailerAt file at) at → checkTrailer reader file used at ≡ Done
   unfolding checkTrailer before
-  trailer-done w k = rw (wholly (length file) used at w) (keeps reader (trailerAt file at) at k)
+  trailer-done w k = rw (wholly (length file) used at w) (kept-passes reader (trailerAt file at) at k)
 
   -- no other number is given by them
   pub trailer-numbers : (number place : ℕ) → checkTrailer reader file used at ≡ Refused number place → ((number ≡ 21) ⊎ (number ≡ 22)) × (place ≡ 0)
   unfolding checkTrailer check21 check22
   trailer-numbers number place e =
-      ⊎-elim (λ q. let w = refused-number _ 21 0 number place q in (inl (w .0), w .1)) (λ q. let w = refused-number _ 22 0 number place (q .1) in (inr (w .0), w .1))
+      ⊎-elim (λ q. let w = refused-number _ 21 0 number place q in (inl (w .1), w .2)) (λ q. let w = refused-number _ 22 0 number place (q .1) in (inr (w .1), w .2))
       (before-refused (check21 (length file) used at) (check22 reader (trailerAt file at) at) number place .0 e)
 
 -- a trailer is whole, or the used length passes the list or ends before the trailer does
 module _ (bytes used at : ℕ) where
-  pub whole-or : Whole bytes used at ⊎ ((bytes < used) ⊎ (used < at + 16))
+  pub whole-or : WholeTrailer bytes used at ⊎ ((bytes < used) ⊎ (used < at + 16))
   whole-or = go (decLt bytes used) (decLt used (at + 16))
     where
-      go : Dec (bytes < used) → Dec (used < at + 16) → Whole bytes used at ⊎ ((bytes < used) ⊎ (used < at + 16))
+      go : Dec (bytes < used) → Dec (used < at + 16) → WholeTrailer bytes used at ⊎ ((bytes < used) ⊎ (used < at + 16))
       go (yes past) short = inr (inl past)
       go (no within) (yes short) = inr (inr short)
       go (no within) (no there) = inl (record { fits = omega arith; ends = omega arith })
 
-  pub not-whole : (bytes < used) ⊎ (used < at + 16) → Whole bytes used at → ⊥
+  pub not-whole : (bytes < used) ⊎ (used < at + 16) → WholeTrailer bytes used at → ⊥
   not-whole h w = ⊎-elim (λ past. omega (arith, w .fits)) (λ short. omega (arith, w .ends)) h
 
 -- at the last 16 bytes: there are fewer
@@ -102,11 +90,11 @@ last-few bytes used = (
 )
 
 -- where the trailer is whole, 22 alone
-pub whole-22 : (reader : Layout) (file : List ℕ) (used at : ℕ) → Whole (length file) used at
+pub whole-22 : (reader : Layout) (file : List ℕ) (used at : ℕ) → WholeTrailer (length file) used at
     → (number place : ℕ) → checkTrailer reader file used at ≡ Refused number place → number ≡ 22
 unfolding checkTrailer check22
 whole-22 reader file used at w number place e =
-    ⊎-elim (λ q. let ok = wholly (length file) used at w in let z : _≡_ {A = ℕ} 0 1 = cc in absurd (omega arith)) (λ q. refused-number _ 22 0 number place (q .1) .0)
+    ⊎-elim (λ q. let ok = wholly (length file) used at w in apart (cc)) (λ q. refused-number _ 22 0 number place (q .1) .1)
     (before-refused (check21 (length file) used at) (check22 reader (trailerAt file at) at) number place .0 e)
 
 -- the numbers of a table fill the bytes
@@ -118,60 +106,53 @@ fills-known layout t at = (
 )
 
 -- four bytes are a number of 32 bits
-pub number-most : (file : List ℕ) → ((i : ℕ) → getD file i 0 < 256) → (at : ℕ) → numberAt file at < 4294967296
-unfolding numberAt
-number-most file bytes at = omega (arith, bytes at, bytes (at + 1), bytes (at + 2), bytes (at + 3))
+pub number-most : (file : List ℕ) → ((i : ℕ) → getD file i 0 < 256) → (at : ℕ) → numberAt 4 file at < 4294967296
+number-most file bytes at = rw number4 (omega (arith, bytes at, bytes (at + 1), bytes (at + 2), bytes (at + 3)))
 
 -- ## 2 to 4
 
 abbrev pub TwoToFour : ℕ → Type 0
 TwoToFour number = (2 ≤ number) × (number ≤ 4)
 
-tasks-numbered : (tasks : List ℕ) → Numbered TwoToFour (checkTasks tasks)
-unfolding checkTasks check2 check3 check4
-tasks-numbered tasks =
-    numbered-before TwoToFour (check2 tasks) _ (numbered-refuse TwoToFour _ 2 0 (lit≤ tt, lit≤ tt))
-    (numbered-ascending TwoToFour _ (taskCount tasks)
-    (λ k. numbered-before TwoToFour (check3 tasks k) (check4 tasks k) (numbered-refuse TwoToFour _ 3 k (lit≤ tt, lit≤ tt)) (numbered-refuse TwoToFour _ 4 k (lit≤ tt, lit≤ tt))))
-
 table-numbered : (layout : Layout) (table : List ℕ) → Numbered TwoToFour (checkTable layout table)
 unfolding checkTable
-table-numbered One table = tasks-numbered table
+table-numbered One table = tasks-numbered TwoToFour (λ number least most. (least, most)) table
 table-numbered Two table =
-    numbered-before TwoToFour (refuse _ 2 0) (checkTasks (unlabelled table)) (numbered-refuse TwoToFour _ 2 0 (lit≤ tt, lit≤ tt)) (tasks-numbered (unlabelled table))
+    numbered-before TwoToFour (refuse _ 2 0) (checkTasks (unlabelled table)) (numbered-refuse TwoToFour _ 2 0 (lit≤ tt, lit≤ tt))
+    (tasks-numbered TwoToFour (λ number least most. (least, most)) (unlabelled table))
 
 -- ## What is read
 
 table-empty : (k : Known) (file : List ℕ) (t : Trailer) (number place : ℕ) → readTable k file t .outcome ≡ Refused number place
     → (readTable k file t .count ≡ 0) × (readTable k file t .fields ≡ replicate 128 0)
-unfolding readTable passed shown unless
+unfolding readTable passedBy shown unless
 table-empty k file t number place = go (checkShown k file t)
   where
-    go : (o : Outcome) → unless o (passed t) (shown t (tableOf k file t)) .outcome ≡ Refused number place
-        → (unless o (passed t) (shown t (tableOf k file t)) .count ≡ 0) × (unless o (passed t) (shown t (tableOf k file t)) .fields ≡ replicate 128 0)
-    go Done e = let z : _≡_ {A = ℕ} 0 1 = cc in absurd (omega arith)
+    go : (o : Outcome) → unless o (passedBy t) (shown t (tableOf k file t)) .outcome ≡ Refused number place
+        → (unless o (passedBy t) (shown t (tableOf k file t)) .count ≡ 0) × (unless o (passedBy t) (shown t (tableOf k file t)) .fields ≡ replicate 128 0)
+    go Done e = apart (cc)
     go (Refused n p) e = (refl, refl)
 
 -- a trailer that shows its table is of a layout the reader knows, and its table passes
 table-done : (k : Known) (file : List ℕ) (t : Trailer) → readTable k file t .outcome ≡ Done
     → (layout : Layout) × (k ≡ Is layout) × (checkTable layout (tableOf (Is layout) file t) ≡ Done) × (readTable k file t ≡ shown t (tableOf (Is layout) file t))
-unfolding readTable checkShown passed shown unless
-table-done Unknown file t e = let z : _≡_ {A = ℕ} 0 1 = cc in absurd (omega arith)
+unfolding readTable checkShown passedBy shown unless
+table-done Unknown file t e = apart (cc)
 table-done (Is layout) file t e = go (checkTable layout (tableOf (Is layout) file t)) refl e
   where
-    go : (o : Outcome) → checkTable layout (tableOf (Is layout) file t) ≡ o → unless o (passed t) (shown t (tableOf (Is layout) file t)) .outcome ≡ Done
-        → (own : Layout) × (Is layout ≡ Is own) × (checkTable own (tableOf (Is own) file t) ≡ Done) × (unless o (passed t) (shown t (tableOf (Is layout) file t)) ≡ shown t (tableOf (Is own) file t))
+    go : (o : Outcome) → checkTable layout (tableOf (Is layout) file t) ≡ o → unless o (passedBy t) (shown t (tableOf (Is layout) file t)) .outcome ≡ Done
+        → (own : Layout) × (Is layout ≡ Is own) × (checkTable own (tableOf (Is own) file t) ≡ Done) × (unless o (passedBy t) (shown t (tableOf (Is layout) file t)) ≡ shown t (tableOf (Is own) file t))
     go Done q e = (layout, refl, q, refl)
-    go (Refused n p) q e = let z : _≡_ {A = ℕ} 0 1 = cc in absurd (omega arith)
+    go (Refused n p) q e = apart (cc)
 
 -- what a table is refused with
 table-numbers : (k : Known) (file : List ℕ) (t : Trailer) (number place : ℕ) → readTable k file t .outcome ≡ Refused number place → (number ≡ 23) ⊎ TwoToFour number
-unfolding readTable checkShown passed shown unless
+unfolding readTable checkShown passedBy shown unless
 table-numbers Unknown file t number place e = let same : 23 ≡ number = cc in inl (sym same)
 table-numbers (Is layout) file t number place e = inr (go (checkTable layout (tableOf (Is layout) file t)) (table-numbered layout (tableOf (Is layout) file t)) e)
   where
-    go : (o : Outcome) → Numbered TwoToFour o → unless o (passed t) (shown t (tableOf (Is layout) file t)) .outcome ≡ Refused number place → TwoToFour number
-    go Done w e = let z : _≡_ {A = ℕ} 0 1 = cc in absurd (omega arith)
+    go : (o : Outcome) → Numbered TwoToFour o → unless o (passedBy t) (shown t (tableOf (Is layout) file t)) .outcome ≡ Refused number place → TwoToFour number
+    go Done w e = apart (cc)
     go (Refused n p) w e = let same : n ≡ number = cc in subst TwoToFour same w
 
 -- numbers that are not used are 0
@@ -200,7 +181,7 @@ module _ (reader : Layout) (file : List ℕ) (used at : ℕ) where
           (ap (λ (r : Read). r .count) is, ap (λ (r : Read). r .fields) is)
 
   -- where the trailer is whole, every other refusal
-  pub whole-numbers : Whole (length file) used at → (number place : ℕ) → readAt reader file used at .outcome ≡ Refused number place
+  pub whole-numbers : WholeTrailer (length file) used at → (number place : ℕ) → readAt reader file used at .outcome ≡ Refused number place
       → (number ≡ 22) ⊎ (number ≡ 23) ⊎ TwoToFour number
   unfolding readTrailer nothing
   whole-numbers w number place e = go (checkTrailer reader file used at) refl
@@ -215,7 +196,7 @@ module _ (reader : Layout) (file : List ℕ) (used at : ℕ) where
           let same : n ≡ number = cc in
           inl (sym same ∙ whole-22 reader file used at w n p q)
 
-  pub whole-not-21 : Whole (length file) used at → (place : ℕ) → readAt reader file used at .outcome ≡ Refused 21 place → ⊥
+  pub whole-not-21 : WholeTrailer (length file) used at → (place : ℕ) → readAt reader file used at .outcome ≡ Refused 21 place → ⊥
   whole-not-21 w place e = other 21 refl (whole-numbers w 21 place e)
     where
       other : (n : ℕ) → n ≡ 21 → (n ≡ 22) ⊎ (n ≡ 23) ⊎ TwoToFour n → ⊥
@@ -224,18 +205,18 @@ module _ (reader : Layout) (file : List ℕ) (used at : ℕ) where
       other n q (inr (inr few)) = omega (arith, few .1)
 
   -- what was read with nothing refused
-  pub record Shows : Type 0 where
+  pub record TableRead : Type 0 where
     pub checks : checkTrailer reader file used at ≡ Done
     pub layout : Layout
     pub knows : known reader (trailerAt file at .layout) ≡ Is layout
     pub accepted : checkTable layout (tableOf (Is layout) file (trailerAt file at)) ≡ Done
     pub is : readAt reader file used at ≡ shown (trailerAt file at) (tableOf (Is layout) file (trailerAt file at))
 
-  pub shows : readAt reader file used at .outcome ≡ Done → Shows
+  pub table-read : readAt reader file used at .outcome ≡ Done → TableRead
   unfolding readTrailer nothing
-  shows e = go (checkTrailer reader file used at) refl
+  table-read e = go (checkTrailer reader file used at) refl
     where
-      go : (o : Outcome) → checkTrailer reader file used at ≡ o → Shows
+      go : (o : Outcome) → checkTrailer reader file used at ≡ o → TableRead
       go Done q =
           let t = trailerAt file at in
           let is = read-trailer reader file used at Done (sym q) refl in
@@ -243,7 +224,7 @@ module _ (reader : Layout) (file : List ℕ) (used at : ℕ) where
           record { checks = q; layout = w .0; knows = w .1; accepted = w .2; is = is ∙ w .3 }
       go (Refused n p) q =
           let is = ap (λ (r : Read). r .outcome) (sym (read-nothing reader file used at (Refused n p) (sym q) n p refl)) in
-          let z : _≡_ {A = ℕ} 0 1 = cc in absurd (omega arith)
+          apart (cc)
 
   -- the fields behind the table's are 0
   unused : readAt reader file used at .outcome ≡ Done
@@ -251,7 +232,7 @@ module _ (reader : Layout) (file : List ℕ) (used at : ℕ) where
       × ((i : ℕ) → readAt reader file used at .count * width layout ≤ i → getD (readAt reader file used at .fields) i 0 ≡ 0)
   unfolding shown tableOf
   unused e =
-      let w = shows e in
+      let w = table-read e in
       let t = trailerAt file at in
       let table = tableOf (Is (w .layout)) file t in (
         w .layout,
@@ -274,7 +255,7 @@ module _ (reader : Layout) (file : List ℕ) (used at : ℕ) (r : Read) (either 
   either-unused =
       of-either reader file used
       (λ a. a .outcome ≡ Done → (layout : Layout) × (known reader (a .layout) ≡ Is layout) × ((i : ℕ) → a .count * width layout ≤ i → getD (a .fields) i 0 ≡ 0))
-      (λ e. let z : _≡_ {A = ℕ} 0 1 = cc in absurd (omega arith)) (λ p. unused reader file used p) at r either
+      (λ e. apart (cc)) (λ p. unused reader file used p) at r either
 
 -- ## An append
 
@@ -282,7 +263,7 @@ pub last-numbers : (file : List ℕ) (used number place : ℕ) → checkLast fil
 last-numbers file used number place e = go (ℕ-discrete used 0)
   where
     go : Dec (used ≡ 0) → ((number ≡ 21) ⊎ (number ≡ 22)) × (place ≡ 0)
-    go (yes q) = let new = new-checked file used q in let z : _≡_ {A = ℕ} 0 1 = cc in absurd (omega arith)
+    go (yes q) = let new = new-checked file used q in apart (cc)
     go (no some) = trailer-numbers Two file used (lastPlace used) number place (sym (last-checked file used some) ∙ e)
 
 pub roomy : (bytes used numbers : ℕ) → Room bytes used numbers → check24 bytes used numbers ≡ Done
@@ -293,48 +274,28 @@ module _ (layout : Layout) (file : List ℕ) (used : ℕ) (table : List ℕ) whe
   abbrev end : ℕ
   end = endAfter used (length table)
 
-  pub passing : Accepted layout file used table → checkAppend layout file used table ≡ Done
+  pub append-passes : Accepted layout file used table → checkAppend layout file used table ≡ Done
   unfolding checkAppend before
-  passing w = rw (w .last, w .numbers) (roomy (length file) used (length table) (w .space))
+  append-passes w = rw (w .last, w .numbers) (roomy (length file) used (length table) (w .space))
 
   pub full : checkAppend layout file used table ≡ Refused 24 0
       ↔ (checkLast file used ≡ Done) × (checkTable layout table ≡ Done) × ((length file < endAfter used (length table)) ⊎ (4294967295 < endAfter used (length table)))
-  unfolding checkAppend check24
-  full = (there, back)
+  unfolding checkAppend check24 firstOf
+  full =
+      Iff·trans (own-refused (checkLast file used ∷ checkTable layout table ∷ []) (refuse (ltb (length file) end || ltb 4294967295 end) 24 0) [] 24 0 (other-last, (other-table, tt)) tt)
+      (λ w. (w .0 .0, w .0 .1 .0, test .0 (w .1)), λ w. ((w .0, (w .1, tt)), test .1 (w .2)))
     where
-      last : Outcome
-      last = checkLast file used
+      other-last : Other 24 (checkLast file used)
+      other-last = other-none 24 (checkLast file used) (λ place q. ⊎-elim (λ (z : 24 ≡ 21). omega arith) (λ (z : 24 ≡ 22). omega arith) (last-numbers file used 24 place q .0))
 
-      numbers : Outcome
-      numbers = checkTable layout table
+      other-table : Other 24 (checkTable layout table)
+      other-table = other-none 24 (checkTable layout table) (λ place q. let w : TwoToFour 24 = subst (Numbered TwoToFour) q (table-numbered layout table) in omega (arith, w .1))
 
-      room : Outcome
-      room = refuse (ltb (length file) end || ltb 4294967295 end) 24 0
-
-      Goal : Type 0
-      Goal = (last ≡ Done) × (numbers ≡ Done) × ((length file < end) ⊎ (4294967295 < end))
-
-      by-room : last ≡ Done → numbers ≡ Done → room ≡ Refused 24 0 → Goal
-      by-room p q e =
-          (p, q, ⊎-elim (λ t. inl (ltb-true (length file) end t)) (λ t. inr (ltb-true 4294967295 end t)) (or-cases (ltb (length file) end) (ltb 4294967295 end) (refuse-reads _ 24 0 .0 e)))
-
-      by-table : last ≡ Done → before numbers room ≡ Refused 24 0 → Goal
-      by-table p e =
-          ⊎-elim (λ q. let w : TwoToFour 24 = subst (Numbered TwoToFour) q (table-numbered layout table) in absurd (omega (arith, w .1))) (λ q. by-room p (q .0) (q .1))
-          (before-refused numbers room 24 0 .0 e)
-
-      there : before last (before numbers room) ≡ Refused 24 0 → Goal
-      there e =
-          ⊎-elim (λ q. let w = last-numbers file used 24 0 q in ⊎-elim (λ (z : 24 ≡ 21). absurd (omega arith)) (λ (z : 24 ≡ 22). absurd (omega arith)) (w .0)) (λ q. by-table (q .0) (q .1))
-          (before-refused last (before numbers room) 24 0 .0 e)
-
-      back : Goal → before last (before numbers room) ≡ Refused 24 0
-      back w =
-          let test = ⊎-elim (λ h. or-left (ltb 4294967295 end) (lt-ltb (length file) end h)) (λ h. or-right (ltb (length file) end) (lt-ltb 4294967295 end h)) (w .2) in
-          before-refused last (before numbers room) 24 0 .1 (inr (w .0, before-refused numbers room 24 0 .1 (inr (w .1, refuse-reads _ 24 0 .1 test))))
+      test : refuse (ltb (length file) end || ltb 4294967295 end) 24 0 ≡ Refused 24 0 ↔ (length file < end) ⊎ (4294967295 < end)
+      test = Iff·trans (refuse-reads _ 24 0) (or-reads (lt-reads (length file) end) (lt-reads 4294967295 end))
 
   -- where the last trailer, if any, is whole: every other refusal
-  append-numbers : ((used ≡ 0 → ⊥) → Whole (length file) used (used - 16)) → (number place : ℕ) → checkAppend layout file used table ≡ Refused number place
+  append-numbers : ((used ≡ 0 → ⊥) → WholeTrailer (length file) used (used - 16)) → (number place : ℕ) → checkAppend layout file used table ≡ Refused number place
       → (number ≡ 22) ⊎ TwoToFour number ⊎ (number ≡ 24)
   unfolding checkAppend check24
   append-numbers w number place e =
@@ -348,12 +309,12 @@ module _ (layout : Layout) (file : List ℕ) (used : ℕ) (table : List ℕ) whe
       by-last q = go (ℕ-discrete used 0)
         where
           go : Dec (used ≡ 0) → number ≡ 22
-          go (yes e) = let new = new-checked file used e in let z : _≡_ {A = ℕ} 0 1 = cc in absurd (omega arith)
+          go (yes e) = let new = new-checked file used e in apart (cc)
           go (no some) = whole-22 Two file used (used - 16) (w some) number place (ap (checkTrailer Two file used) (sym (last-is used some)) ∙ sym (last-checked file used some) ∙ q)
 
       by-rest : before (checkTable layout table) room ≡ Refused number place → TwoToFour number ⊎ (number ≡ 24)
       by-rest q =
-          ⊎-elim (λ p. inl (subst (Numbered TwoToFour) p (table-numbered layout table))) (λ p. inr (refused-number _ 24 0 number place (p .1) .0))
+          ⊎-elim (λ p. inl (subst (Numbered TwoToFour) p (table-numbered layout table))) (λ p. inr (refused-number _ 24 0 number place (p .1) .1))
           (before-refused (checkTable layout table) room number place .0 q)
 
   -- 21 is the last trailer's

@@ -7,8 +7,8 @@ use native.Mathlib.Decide.{ℕ-discrete}
 use native.Mathlib.Omega.{arith}
 use lib.ListN.{take}
 use borrow.Author.Tests.{eq-eqb, ne-eqb}
-use Rattle.tables.specs.declared.outcome.Outcome.{Outcome}
-use Rattle.tables.specs.declared.outcome.Outcome.the-variants.{Done, Refused}
+use Rattle.tables.specs.declared.answers.Outcome.{Outcome}
+use Rattle.tables.specs.declared.answers.Outcome.the-variants.{Done, Refused}
 use Rattle.tables.specs.Refusals.{unless}
 use Rattle.tables.proofs.Laws.Refusals.{unless-done, unless-refused}
 use Rattle.chain.specs.declared.answers.Read.{Read}
@@ -16,7 +16,7 @@ use Rattle.chain.specs.declared.layout.Known.{Known}
 use Rattle.chain.specs.declared.layout.Known.the-variants.{Is, Unknown}
 use Rattle.chain.specs.declared.layout.Layout.{Layout}
 use Rattle.chain.specs.declared.trailer.Trailer.{Trailer}
-use Rattle.chain.specs.Answers.{lastAnswer, nothing, passed, readAnswer, readAt, readTable, readTrailer, shown}
+use Rattle.chain.specs.Answers.{lastAnswer, nothing, passedBy, readAnswer, readAt, readTable, readTrailer, shown}
 use Rattle.chain.specs.Layout.{known, width}
 use Rattle.chain.specs.Refusals.{checkShown, checkTrailer}
 use Rattle.chain.specs.Table.{checkTable, numbersFrom, padded, tableOf}
@@ -35,39 +35,41 @@ module _ (layout : Layout) (file : List ℕ) (t : Trailer) where
   table-checked = refl
 
   -- over 16 tasks, whatever their numbers
-  pub table-many : 16 < t .count → passed t 2 0 ≡ readTable (Is layout) file t
+  pub table-many : 16 < t .count → passedBy t 2 0 ≡ readTable (Is layout) file t
   unfolding readTable
   table-many many =
-      sym (unless-refused (passed t) (shown t (tableOf (Is layout) file t)) (checkShown (Is layout) file t) 2 0 (table-checked ∙ many-refused layout table (t .count) (length-numbers file (t .start) (t .count * width layout)) many))
+      sym (unless-refused (passedBy t) (shown t (tableOf (Is layout) file t)) (checkShown (Is layout) file t) 2 0
+      (table-checked ∙ many-refused layout table (t .count) (length-numbers file (t .start) (t .count * width layout)) many))
 
   -- the table was read to room for 128 numbers, and that part of it checked
   module _ (n : ℕ) (fields : List ℕ) (size : n ≡ t .count * width layout) (few : n ≤ 128) (is : fields ≡ padded 128 (numbersFrom file (t .start) n)) where
     checked-is : (found : Outcome) → found ≡ checkTable layout (take n fields) → checkShown (Is layout) file t ≡ found
     checked-is found e =
         let list = numbersFrom file (t .start) n in
-        let part : take n fields ≡ list = ap (take n) is ∙ ap (λ (k : ℕ). take k (padded 128 list)) (sym (length-numbers file (t .start) n)) ∙ take-padded 128 list (omega (arith, length-numbers file (t .start) n)) in
+        let part : take n fields ≡ list = ap (take n) is ∙ ap (λ (k : ℕ). take k (padded 128 list)) (sym (length-numbers file (t .start) n))
+        ∙ take-padded 128 list (omega (arith, length-numbers file (t .start) n)) in
         table-checked ∙ ap (λ (k : ℕ). checkTable layout (numbersFrom file (t .start) k)) (sym size) ∙ ap (checkTable layout) (sym part) ∙ sym e
 
-    pub table-shown : (found : Outcome) → found ≡ checkTable layout (take n fields) → found ≡ Done
+    pub fields-shown : (found : Outcome) → found ≡ checkTable layout (take n fields) → found ≡ Done
         → _≡_ {A = Read} (record { outcome = Done; layout = t .layout; before = t .before; count = t .count; fields = fields }) (readTable (Is layout) file t)
     unfolding readTable shown tableOf
-    table-shown found e ok =
+    fields-shown found e ok =
         ap (λ (fs : List ℕ). record { outcome = Done; layout = t .layout; before = t .before; count = t .count; fields = fs })
         (is ∙ ap (λ (k : ℕ). padded 128 (numbersFrom file (t .start) k)) size)
-        ∙ sym (unless-done (passed t) (shown t (tableOf (Is layout) file t)) (checkShown (Is layout) file t) (checked-is found e ∙ ok))
+        ∙ sym (unless-done (passedBy t) (shown t (tableOf (Is layout) file t)) (checkShown (Is layout) file t) (checked-is found e ∙ ok))
 
     pub table-passed : (found : Outcome) (number place : ℕ) → found ≡ checkTable layout (take n fields) → found ≡ Refused number place
-        → passed t number place ≡ readTable (Is layout) file t
+        → passedBy t number place ≡ readTable (Is layout) file t
     unfolding readTable
     table-passed found number place e refuses =
-        sym (unless-refused (passed t) (shown t (tableOf (Is layout) file t)) (checkShown (Is layout) file t) number place (checked-is found e ∙ refuses))
+        sym (unless-refused (passedBy t) (shown t (tableOf (Is layout) file t)) (checkShown (Is layout) file t) number place (checked-is found e ∙ refuses))
 
 module _ (reader : Layout) (file : List ℕ) (t : Trailer) (k : Known) (is : k ≡ known reader (t .layout)) where
   pub trailer-known : (own : Layout) → k ≡ Is own → readTable (Is own) file t ≡ readTrailer reader file t
   unfolding readTrailer
   trailer-known own e = ap (λ (x : Known). readTable x file t) (sym e ∙ is)
 
-  pub trailer-unknown : k ≡ Unknown → passed t 23 (t .layout) ≡ readTrailer reader file t
+  pub trailer-unknown : k ≡ Unknown → passedBy t 23 (t .layout) ≡ readTrailer reader file t
   unfolding readTrailer readTable checkShown unless
   trailer-unknown e = ap (λ (x : Known). readTable x file t) (sym e ∙ is)
 
@@ -118,14 +120,14 @@ module _ (reader : Layout) (file : List ℕ) (used : ℕ) where
 
 -- a trailer in a layout that the reader knows: what is checked of its table decides
 module _ (reader : Layout) (file : List ℕ) (t : Trailer) (layout : Layout) (knows : known reader (t .layout) ≡ Is layout) where
-  pub by-refusal : (number place : ℕ) → checkTable layout (tableOf (Is layout) file t) ≡ Refused number place → readTrailer reader file t ≡ passed t number place
+  pub by-refusal : (number place : ℕ) → checkTable layout (tableOf (Is layout) file t) ≡ Refused number place → readTrailer reader file t ≡ passedBy t number place
   unfolding readTable checkShown
   by-refusal number place e =
       sym (trailer-known reader file t (Is layout) (sym knows) layout refl)
-      ∙ unless-refused (passed t) (shown t (tableOf (Is layout) file t)) (checkTable layout (tableOf (Is layout) file t)) number place e
+      ∙ unless-refused (passedBy t) (shown t (tableOf (Is layout) file t)) (checkTable layout (tableOf (Is layout) file t)) number place e
 
   pub by-acceptance : checkTable layout (tableOf (Is layout) file t) ≡ Done → readTrailer reader file t ≡ shown t (tableOf (Is layout) file t)
   unfolding readTable checkShown
   by-acceptance e =
       sym (trailer-known reader file t (Is layout) (sym knows) layout refl)
-      ∙ unless-done (passed t) (shown t (tableOf (Is layout) file t)) (checkTable layout (tableOf (Is layout) file t)) e
+      ∙ unless-done (passedBy t) (shown t (tableOf (Is layout) file t)) (checkTable layout (tableOf (Is layout) file t)) e

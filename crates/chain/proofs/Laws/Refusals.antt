@@ -7,8 +7,8 @@ use native.Mathlib.Omega.{arith}
 use lib.Dec.{ltb}
 use lib.ListN.{length}
 use borrow.Author.Tests.{eq-eqb, le-ltb, lt-ltb, ltb-false, ltb-true, ne-eqb}
-use Rattle.bits.proofs.Bools.{or-left-false, or-right, or-right-false, same-test}
-use Rattle.tables.specs.declared.outcome.Outcome.the-variants.{Done, Refused}
+use Rattle.bits.proofs.Laws.Bools.{or-left-false, or-right, or-right-false, same-test}
+use Rattle.tables.specs.declared.answers.Outcome.the-variants.{Done, Refused}
 use Rattle.tables.specs.Refusals.{before, refuse}
 use Rattle.tables.proofs.Laws.Refusals.{before-first, before-second, refuse-fine}
 use Rattle.chain.specs.declared.layout.Layout.{Layout}
@@ -31,13 +31,13 @@ module _ (bytes used at : ℕ) where
       (λ t. lt-ltb (used - 16) at (omega (arith, ltb-true used (at + 16) t))))
 
   -- a whole trailer within the used bytes
-  pub record Whole : Type 0 where
+  pub record WholeTrailer : Type 0 where
     pub fits : used ≤ bytes
     pub ends : at + 16 ≤ used
 
-  pub whole : check21 bytes used at ≡ Done → Whole
+  pub whole-trailer : check21 bytes used at ≡ Done → WholeTrailer
   unfolding check21
-  whole ok =
+  whole-trailer ok =
       let tests = refuse-fine _ 21 0 ok in
       record {
         fits = ltb-false bytes used (or-left-false (ltb bytes used) (ltb used (at + 16)) tests);
@@ -51,9 +51,9 @@ module _ (reader : Layout) (t : Trailer) (at : ℕ) where
     pub within : t .start ≤ at
     pub fills : misfits (known reader (t .layout)) t at ≡ false
 
-  pub kept : check22 reader t at ≡ Done → Kept
+  pub places-kept : check22 reader t at ≡ Done → Kept
   unfolding check22
-  kept ok =
+  places-kept ok =
       let tests = refuse-fine _ 22 0 ok in
       let early = ltb (t .start) (endOf (t .before)) in
       let late = ltb at (t .start) in
@@ -65,13 +65,13 @@ module _ (reader : Layout) (t : Trailer) (at : ℕ) where
 
 -- a trailer that passes both
 module _ (reader : Layout) (file : List ℕ) (used at : ℕ) (ok : checkTrailer reader file used at ≡ Done) where
-  pub trailer-whole : Whole (length file) used at
+  pub trailer-whole : WholeTrailer (length file) used at
   unfolding checkTrailer
-  trailer-whole = whole (length file) used at (before-first (check21 (length file) used at) _ ok)
+  trailer-whole = whole-trailer (length file) used at (before-first (check21 (length file) used at) _ ok)
 
   pub trailer-kept : Kept reader (trailerAt file at) at
   unfolding checkTrailer
-  trailer-kept = kept reader (trailerAt file at) at (before-second (check21 (length file) used at) _ ok)
+  trailer-kept = places-kept reader (trailerAt file at) at (before-second (check21 (length file) used at) _ ok)
 
 pub trailer-short : (reader : Layout) (file : List ℕ) (used at : ℕ) → used < 16 → checkTrailer reader file used at ≡ Refused 21 0
 unfolding checkTrailer before
@@ -79,13 +79,13 @@ trailer-short reader file used at h = rw (← short-21 (length file) used at h)
 
 -- ## The other way round
 
-pub wholly : (bytes used at : ℕ) → Whole bytes used at → check21 bytes used at ≡ Done
+pub wholly : (bytes used at : ℕ) → WholeTrailer bytes used at → check21 bytes used at ≡ Done
 unfolding check21 refuse
 wholly bytes used at w = rw (le-ltb bytes used (w .fits), le-ltb used (at + 16) (w .ends))
 
-pub keeps : (reader : Layout) (t : Trailer) (at : ℕ) → Kept reader t at → check22 reader t at ≡ Done
+pub kept-passes : (reader : Layout) (t : Trailer) (at : ℕ) → Kept reader t at → check22 reader t at ≡ Done
 unfolding check22 refuse
-keeps reader t at w = rw (le-ltb (t .start) (endOf (t .before)) (w .behind), le-ltb at (t .start) (w .within), w .fills)
+kept-passes reader t at w = rw (le-ltb (t .start) (endOf (t .before)) (w .behind), le-ltb at (t .start) (w .within), w .fills)
 
 -- where the preceding trailer ends
 pub end-of-none : (place : ℕ) → place ≡ none → endOf place ≡ 0

@@ -1,7 +1,6 @@
 -- Equal numbers are equal answers.
-use Prim.Native.Nat.{ℕ}
 use mathlib.Core.Path.{_≡_}
-use native.Mathlib.Omega.{arith}
+use Rattle.bits.proofs.Laws.Bools.{apart}
 use Rattle.chain.specs.declared.answers.Appended.{Appended}
 use Rattle.chain.specs.declared.answers.Appended.the-variants.{Refused, Used}
 use Rattle.chain.specs.Said.{appendedSaid}
@@ -9,6 +8,6 @@ use Rattle.chain.specs.Said.{appendedSaid}
 pub appended-said : (a b : Appended) → appendedSaid a ≡ appendedSaid b → a ≡ b
 unfolding appendedSaid
 appended-said (Refused n p) (Refused m q) e = cc
-appended-said (Refused n p) (Used bytes) e = let z : _≡_ {A = ℕ} 0 1 = cc in absurd (omega arith)
-appended-said (Used bytes) (Refused n p) e = let z : _≡_ {A = ℕ} 0 1 = cc in absurd (omega arith)
+appended-said (Refused n p) (Used bytes) e = apart (cc)
+appended-said (Used bytes) (Refused n p) e = apart (cc)
 appended-said (Used bytes) (Used others) e = cc

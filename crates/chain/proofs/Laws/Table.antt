@@ -10,10 +10,10 @@ use lib.ListN.{getD, getD-replicate, length, length-replicate, replicate, set, t
 use lib.Seq.{ext-getD, getD-take, length-take-le}
 use borrow.Author.Tests.{eq-eqb, eqb-true, lt-ltb, ltb-false, ltb-true, not-false}
 use Rattle.bits.specs.Below.{listFrom}
-use Rattle.bits.proofs.Arrays.{Written, written-all, written-more, written-none}
-use Rattle.bits.proofs.Below.{getD-list, length-listFrom}
-use Rattle.bits.proofs.Bools.{or-cases, or-left, or-left-false, or-right, or-right-false}
-use Rattle.tables.specs.declared.outcome.Outcome.the-variants.{Done, Refused}
+use Rattle.bits.proofs.Laws.Arrays.{Written, written-all, written-more, written-none}
+use Rattle.bits.proofs.Laws.Below.{getD-list, length-listFrom}
+use Rattle.bits.proofs.Laws.Bools.{or-cases, or-left, or-left-false, or-right, or-right-false, apart}
+use Rattle.tables.specs.declared.answers.Outcome.the-variants.{Done, Refused}
 use Rattle.tables.specs.Bytes.{numberAt}
 use Rattle.tables.specs.Refusals.{before, check2, checkTasks, outside, refuse}
 use Rattle.tables.specs.Tables.{taskCount}
@@ -57,19 +57,15 @@ module _ (room : ℕ) (list : List ℕ) where
       ext-getD 0 (take (length list) (listFrom 0 room f)) list size
       (λ i l. getD-take (length list) (listFrom 0 room f) i 0 (omega arith) ∙ getD-list room f i 0 (omega arith))
 
--- a list is the list of its elements
-pub list-of : (l : List ℕ) → listFrom 0 (length l) (λ i. getD l i 0) ≡ l
-list-of l = ext-getD 0 (listFrom 0 (length l) (λ i. getD l i 0)) l (length-listFrom 0 (length l) (λ i. getD l i 0)) (λ i h. getD-list (length l) (λ k. getD l k 0) i 0 (omega (arith, length-listFrom 0 (length l) (λ k. getD l k 0))))
-
 -- ## In the file, and without labels
 
 pub length-numbers : (file : List ℕ) (start n : ℕ) → length (numbersFrom file start n) ≡ n
 unfolding numbersFrom
-length-numbers file start n = length-listFrom 0 n (λ i. numberAt file (start + i * 4))
+length-numbers file start n = length-listFrom 0 n (λ i. numberAt 4 file (start + i * 4))
 
-pub numbers-at : (file : List ℕ) (start n i : ℕ) → i < n → getD (numbersFrom file start n) i 0 ≡ numberAt file (start + i * 4)
+pub numbers-at : (file : List ℕ) (start n i : ℕ) → i < n → getD (numbersFrom file start n) i 0 ≡ numberAt 4 file (start + i * 4)
 unfolding numbersFrom
-numbers-at file start n i h = getD-list n (λ k. numberAt file (start + k * 4)) i 0 h
+numbers-at file start n i h = getD-list n (λ k. numberAt 4 file (start + k * 4)) i 0 h
 
 pub length-unlabelled : (table : List ℕ) → length (unlabelled table) ≡ length table / 8 * 7
 unfolding unlabelled
@@ -100,7 +96,7 @@ labelled-refused table test = go (not (eqb (length table % 8) 0)) (or-cases (not
   where
     go : (b : Bool) → (b ≡ true) ⊎ (ltb 16 (length table / 8) ≡ true) → Refused 2 0 ≡ before (refuse b 2 0) (checkTasks (unlabelled table))
     go true w = refl
-    go false (inl e) = let z : _≡_ {A = ℕ} 0 1 = cc in absurd (omega arith)
+    go false (inl e) = apart (cc)
     go false (inr h) = sym (many-unlabelled table (ltb-true 16 (length table / 8) h))
 
 pub labelled-passes : (table : List ℕ) → not (eqb (length table % 8) 0) ≡ false → checkTasks (unlabelled table) ≡ checkTable Two table

@@ -9,7 +9,7 @@ use native.Mathlib.Omega.{arith}
 use lib.Dec.{eqb}
 use lib.ListN.{getD, length}
 use borrow.Author.Tests.{eq-eqb, eqb-false, ne-eqb}
-use Rattle.bits.proofs.Bools.{by-cond}
+use Rattle.bits.proofs.Laws.Bools.{by-cond}
 use Rattle.chain.specs.declared.answers.Read.{Read}
 use Rattle.chain.specs.declared.layout.Layout.{Layout}
 use Rattle.chain.specs.Answers.{readAnswer}

@@ -11,14 +11,14 @@ use lib.ListN.{getD, length, length-set, set}
 use lib.Seq.{getD-set-other, getD-set-same}
 use borrow.Author.Tests.{eq-eqb, le-ltb, lt-ltb, ltb-false, ltb-true, ne-eqb}
 use Rattle.bits.specs.Below.{some}
-use Rattle.bits.proofs.Below.{none-passes, scan-on, some-false, some-true}
-use Rattle.bits.proofs.Bools.{and-false, and-false-right, and-true, by-cond, either, failed, same-test}
+use Rattle.bits.proofs.Laws.Below.{none-passes, scan-on, some-false, some-true}
+use Rattle.bits.proofs.Laws.Bools.{and-false, and-false-right, and-true, by-cond, either, failed, same-test}
 use Rattle.tables.specs.Tables.{taskCount}
 use Rattle.index.specs.Answers.{moved}
 use Rattle.index.specs.Code.{Sized}
 use Rattle.index.specs.Refusals.{leaves, strays}
-use Rattle.index.specs.Rows.{numberAt, rowCount, table, width}
-use Rattle.index.proofs.Laws.Rows.{place-apart, place-within, table-is}
+use Rattle.index.specs.Rows.{indexNumber, rowCount, rowByRow, rowWidth}
+use Rattle.index.proofs.Laws.Rows.{place-apart, place-within, row-by-row-is}
 
 -- what a number that does not leave is
 pub record Stays (horizon loses gains : ℕ) : Type 0 where
@@ -26,9 +26,9 @@ pub record Stays (horizon loses gains : ℕ) : Type 0 where
   pub loses-most : loses ≤ horizon + 1
   pub gains-most : gains + 1 ≤ horizon
 
-pub stays : (horizon loses gains : ℕ) → leaves horizon loses gains ≡ false → Stays horizon loses gains
+pub stays-within : (horizon loses gains : ℕ) → leaves horizon loses gains ≡ false → Stays horizon loses gains
 unfolding leaves
-stays horizon loses gains e =
+stays-within horizon loses gains e =
     record {
       some-left = ltb-false loses 1 (search failed);
       loses-most = ltb-false (horizon + 1) loses (search failed);
@@ -43,7 +43,7 @@ leaves-not horizon loses gains w =
 module _ (tasks : List ℕ) (horizon : ℕ) (index : List ℕ) (tick old new : ℕ) where
   -- the numbers of row r leave
   abbrev pub out : ℕ → Bool
-  out r = leaves horizon (numberAt tasks index r old) (numberAt tasks index r new)
+  out r = leaves horizon (indexNumber tasks index r old) (indexNumber tasks index r new)
 
   -- row r is past the tick, and they do
   abbrev pub stray : ℕ → Bool
@@ -70,13 +70,13 @@ module _ (tasks : List ℕ) (horizon : ℕ) (index : List ℕ) (tick old new : �
     unfolding strays
     strays-found e = and-true (ap not (ne-eqb old new other)) (some-true stray (rowCount horizon) r there (and-true (lt-ltb tick (r * 64) past) e))
 
-    pub strays-fine : strays tasks horizon index tick old new ≡ false → Stays horizon (numberAt tasks index r old) (numberAt tasks index r new)
+    pub strays-fine : strays tasks horizon index tick old new ≡ false → Stays horizon (indexNumber tasks index r old) (indexNumber tasks index r new)
     unfolding strays
     strays-fine e =
-        stays horizon _ _ (and-false (lt-ltb tick (r * 64) past) (some-false stray (rowCount horizon) r there (and-false (ap not (ne-eqb old new other)) e)))
+        stays-within horizon _ _ (and-false (lt-ltb tick (r * 64) past) (some-false stray (rowCount horizon) r there (and-false (ap not (ne-eqb old new other)) e)))
 
   -- nothing strays where no number leaves
-  pub strays-never : ((old ≡ new → ⊥) → (r : ℕ) → r < rowCount horizon → tick < r * 64 → Stays horizon (numberAt tasks index r old) (numberAt tasks index r new))
+  pub strays-never : ((old ≡ new → ⊥) → (r : ℕ) → r < rowCount horizon → tick < r * 64 → Stays horizon (indexNumber tasks index r old) (indexNumber tasks index r new))
       → strays tasks horizon index tick old new ≡ false
   unfolding strays
   strays-never each = go (ℕ-discrete old new)
@@ -91,50 +91,51 @@ module _ (tasks : List ℕ) (horizon : ℕ) (index : List ℕ) (tick old new : �
 
 -- what a replacement makes of each number
 module _ (tasks held : List ℕ) (tick old new : ℕ) where
-  pub moved-before : (r c : ℕ) → r * 64 ≤ tick → moved tasks held tick old new r c ≡ numberAt tasks held r c
+  pub moved-before : (r c : ℕ) → r * 64 ≤ tick → moved tasks held tick old new r c ≡ indexNumber tasks held r c
   unfolding moved
   moved-before r c m = rw (and-false-right (not (eqb old new)) (le-ltb tick (r * 64) m))
 
-  pub moved-same : old ≡ new → (r c : ℕ) → moved tasks held tick old new r c ≡ numberAt tasks held r c
+  pub moved-same : old ≡ new → (r c : ℕ) → moved tasks held tick old new r c ≡ indexNumber tasks held r c
   unfolding moved
   moved-same e r c = rw (eq-eqb old new e)
 
   module _ (apart : old ≡ new → ⊥) (r : ℕ) (past : tick < r * 64) where
-    pub moved-old : moved tasks held tick old new r old ≡ numberAt tasks held r old - 1
+    pub moved-old : moved tasks held tick old new r old ≡ indexNumber tasks held r old - 1
     unfolding moved
     moved-old = rw (ne-eqb old new apart, lt-ltb tick (r * 64) past, eq-eqb old old refl)
 
-    pub moved-new : moved tasks held tick old new r new ≡ numberAt tasks held r new + 1
+    pub moved-new : moved tasks held tick old new r new ≡ indexNumber tasks held r new + 1
     unfolding moved
     moved-new = rw (ne-eqb old new apart, lt-ltb tick (r * 64) past, ne-eqb new old (λ e. apart (sym e)), eq-eqb new new refl)
 
-  pub moved-other : (r c : ℕ) → (c ≡ old → ⊥) → (c ≡ new → ⊥) → moved tasks held tick old new r c ≡ numberAt tasks held r c
+  pub moved-other : (r c : ℕ) → (c ≡ old → ⊥) → (c ≡ new → ⊥) → moved tasks held tick old new r c ≡ indexNumber tasks held r c
   unfolding moved
   moved-other r c a b =
-      by-cond (λ n. n ≡ numberAt tasks held r c) (not (eqb old new) && ltb tick (r * 64)) _ _ (λ _. rw (ne-eqb c old a, ne-eqb c new b)) (λ _. refl)
+      by-cond (λ n. n ≡ indexNumber tasks held r c) (not (eqb old new) && ltb tick (r * 64)) _ _ (λ _. rw (ne-eqb c old a, ne-eqb c new b)) (λ _. refl)
 
 module _ (tasks held : List ℕ) (tick old new rows : ℕ) where
   -- The rows before row r are as the replacement makes them, the others still as they were.
   pub record Moving (index : List ℕ) (r : ℕ) : Type 0 where
     pub size : length index ≡ length held
-    pub each : (q c : ℕ) → q < rows → c < width tasks → numberAt tasks index q c ≡ cond (ltb q r) (moved tasks held tick old new q c) (numberAt tasks held q c)
+    pub each : (q c : ℕ) → q < rows → c < rowWidth tasks → indexNumber tasks index q c ≡ cond (ltb q r) (moved tasks held tick old new q c) (indexNumber tasks held q c)
 
   pub moving-none : (first : ℕ) → first * 64 ≤ tick + 64 → Moving held first
   moving-none first b =
       record {
         size = refl;
-        each = λ q c l m. by-cond (λ n. numberAt tasks held q c ≡ n) (ltb q first) _ _ (λ e. sym (moved-before tasks held tick old new q c (omega (arith, ltb-true q first e)))) (λ _. refl);
+        each = λ q c l m. by-cond (λ n. indexNumber tasks held q c ≡ n) (ltb q first) _ _ (λ e. sym (moved-before tasks held tick old new q c (omega (arith, ltb-true q first e)))) (λ _. refl);
       }
 
   -- row r still holds what it held
-  pub moving-held : (index : List ℕ) (r c : ℕ) → Moving index r → r < rows → c < width tasks → numberAt tasks index r c ≡ numberAt tasks held r c
-  moving-held index r c w l m = w .each r c l m ∙ ap (λ (b : Bool). cond b (moved tasks held tick old new r c) (numberAt tasks held r c)) (le-ltb r r (omega arith))
+  pub moving-held : (index : List ℕ) (r c : ℕ) → Moving index r → r < rows → c < rowWidth tasks → indexNumber tasks index r c ≡ indexNumber tasks held r c
+  moving-held index r c w l m = w .each r c l m ∙ ap (λ (b : Bool). cond b (moved tasks held tick old new r c) (indexNumber tasks held r c)) (le-ltb r r (omega arith))
 
-  module _ (apart : old ≡ new → ⊥) (firstly : old < width tasks) (lastly : new < width tasks) (long : length held ≡ rows * width tasks) where
+  module _ (apart : old ≡ new → ⊥) (firstly : old < rowWidth tasks) (lastly : new < rowWidth tasks) (long : length held ≡ rows * rowWidth tasks) where
     -- one row more
     pub moving-more : (index : List ℕ) (r : ℕ) → Moving index r → r < rows → tick < r * 64
-        → Moving (set (set index (r * width tasks + old) (numberAt tasks index r old - 1)) (r * width tasks + new) (getD (set index (r * width tasks + old) (numberAt tasks index r old - 1)) (r * width tasks + new) 0 + 1)) (r + 1)
-    unfolding numberAt
+        → Moving (set (set index (r * rowWidth tasks + old) (indexNumber tasks index r old - 1)) (r * rowWidth tasks + new)
+        (getD (set index (r * rowWidth tasks + old) (indexNumber tasks index r old - 1)) (r * rowWidth tasks + new) 0 + 1)) (r + 1)
+    unfolding indexNumber
     moving-more index r w there past =
         record {
           size = length-set one pn _ ∙ length-set index po _ ∙ w .size;
@@ -142,13 +143,13 @@ module _ (tasks held : List ℕ) (tick old new rows : ℕ) where
         }
       where
         wide : ℕ
-        wide = width tasks
+        wide = rowWidth tasks
 
         po : ℕ
-        po = r * width tasks + old
+        po = r * rowWidth tasks + old
 
         pn : ℕ
-        pn = r * width tasks + new
+        pn = r * rowWidth tasks + new
 
         one : List ℕ
         one = set index po (getD index po 0 - 1)
@@ -169,10 +170,10 @@ module _ (tasks held : List ℕ) (tick old new rows : ℕ) where
         kept : (p : ℕ) → (p ≡ po → ⊥) → (p ≡ pn → ⊥) → getD two p 0 ≡ getD index p 0
         kept p a b = getD-set-other one pn p _ 0 b ∙ getD-set-other index po p _ 0 a
 
-        held-here : (c : ℕ) → c < wide → getD index (r * width tasks + c) 0 ≡ numberAt tasks held r c
+        held-here : (c : ℕ) → c < wide → getD index (r * rowWidth tasks + c) 0 ≡ indexNumber tasks held r c
         held-here c m = moving-held index r c w there m
 
-        here : (c : ℕ) → c < wide → Dec (c ≡ old) → Dec (c ≡ new) → getD two (r * width tasks + c) 0 ≡ moved tasks held tick old new r c
+        here : (c : ℕ) → c < wide → Dec (c ≡ old) → Dec (c ≡ new) → getD two (r * rowWidth tasks + c) 0 ≡ moved tasks held tick old new r c
         here c m (yes a) d =
             rw a
             (getD-set-other one pn po _ 0 (λ e. differ (sym e)) ∙ getD-set-same index po _ 0 po-within ∙ ap (λ (n : ℕ). n - 1) (held-here old firstly)
@@ -182,62 +183,57 @@ module _ (tasks held : List ℕ) (tick old new rows : ℕ) where
             (getD-set-same one pn _ 0 pn-within ∙ ap (λ (n : ℕ). n + 1) (getD-set-other index po pn _ 0 differ ∙ held-here new lastly)
             ∙ sym (moved-new tasks held tick old new apart r past))
         here c m (no a) (no b) =
-            kept (r * width tasks + c) (λ e. a (place-apart wide r c r old m firstly e .1)) (λ e. b (place-apart wide r c r new m lastly e .1))
+            kept (r * rowWidth tasks + c) (λ e. a (place-apart wide r c r old m firstly e .1)) (λ e. b (place-apart wide r c r new m lastly e .1))
             ∙ held-here c m ∙ sym (moved-other tasks held tick old new r c a b)
 
         same : (q : ℕ) → (q ≡ r → ⊥) → ltb q r ≡ ltb q (r + 1)
         same q e =
             same-test (ltb q r) (ltb q (r + 1)) (λ h. lt-ltb q (r + 1) (omega (arith, ltb-true q r h))) (λ h. lt-ltb q r (omega (arith, ltb-true q (r + 1) h)))
 
-        go : (q c : ℕ) → q < rows → c < wide → Dec (q ≡ r) → getD two (q * width tasks + c) 0 ≡ cond (ltb q (r + 1)) (moved tasks held tick old new q c) (numberAt tasks held q c)
+        go : (q c : ℕ) → q < rows → c < wide → Dec (q ≡ r) → getD two (q * rowWidth tasks + c) 0 ≡ cond (ltb q (r + 1)) (moved tasks held tick old new q c) (indexNumber tasks held q c)
         go q c l m (yes e) = rw (e, lt-ltb r (r + 1) (omega arith)) (here c m (ℕ-discrete c old) (ℕ-discrete c new))
         go q c l m (no e) =
-            kept (q * width tasks + c) (λ s. e (place-apart wide q c r old m firstly s .0)) (λ s. e (place-apart wide q c r new m lastly s .0))
-            ∙ w .each q c l m ∙ ap (λ (b : Bool). cond b (moved tasks held tick old new q c) (numberAt tasks held q c)) (same q e)
+            kept (q * rowWidth tasks + c) (λ s. e (place-apart wide q c r old m firstly s .0)) (λ s. e (place-apart wide q c r new m lastly s .0))
+            ∙ w .each q c l m ∙ ap (λ (b : Bool). cond b (moved tasks held tick old new q c) (indexNumber tasks held q c)) (same q e)
 
   -- all rows past the tick
-  pub moving-all : (index : List ℕ) (r : ℕ) → length held ≡ rows * width tasks → Moving index r → rows ≤ r → index ≡ table (width tasks) rows (moved tasks held tick old new)
-  unfolding numberAt
+  pub moving-all : (index : List ℕ) (r : ℕ) → length held ≡ rows * rowWidth tasks → Moving index r → rows ≤ r → index ≡ rowByRow (rowWidth tasks) rows (moved tasks held tick old new)
+  unfolding indexNumber
   moving-all index r long w all =
-      table-is (width tasks) (moved tasks held tick old new) index rows (w .size ∙ long)
-      (λ q c l m. w .each q c l m ∙ ap (λ (b : Bool). cond b (moved tasks held tick old new q c) (numberAt tasks held q c)) (lt-ltb q r (omega arith)))
+      row-by-row-is (rowWidth tasks) (moved tasks held tick old new) index rows (w .size ∙ long)
+      (λ q c l m. w .each q c l m ∙ ap (λ (b : Bool). cond b (moved tasks held tick old new q c) (indexNumber tasks held q c)) (lt-ltb q r (omega arith)))
 
   -- no row where both columns are the same
-  pub moving-same : length held ≡ rows * width tasks → old ≡ new → held ≡ table (width tasks) rows (moved tasks held tick old new)
-  unfolding numberAt
-  moving-same long e = table-is (width tasks) (moved tasks held tick old new) held rows long (λ q c l m. sym (moved-same tasks held tick old new e q c))
+  pub moving-same : length held ≡ rows * rowWidth tasks → old ≡ new → held ≡ rowByRow (rowWidth tasks) rows (moved tasks held tick old new)
+  unfolding indexNumber
+  moving-same long e = row-by-row-is (rowWidth tasks) (moved tasks held tick old new) held rows long (λ q c l m. sym (moved-same tasks held tick old new e q c))
 
--- one turn of the loop, where row r begins at `at`
-module _ (tasks : List ℕ) (horizon : ℕ) (held : List ℕ) (tick old new : ℕ) (size : Sized tasks horizon held)
-    (firstly : old ≤ taskCount tasks) (lastly : new ≤ taskCount tasks) (apart : old ≡ new → ⊥)
-    (fine : strays tasks horizon held tick old new ≡ false) (index : List ℕ) (r at : ℕ)
-    (w : Moving tasks held tick old new (rowCount horizon) index r) (there : r < rowCount horizon) (past : tick < r * 64)
-    (begins : at ≡ r * width tasks) where
-  stay : Stays horizon (numberAt tasks held r old) (numberAt tasks held r new)
-  stay = strays-fine tasks horizon held tick old new apart r there past fine
+-- one turn of the loop, where row r begins at `at`: no place is outside the index, no number wraps, and one row more is moved
+pub record Turn (tasks : List ℕ) (horizon : ℕ) (held : List ℕ) (tick old new : ℕ) (index : List ℕ) (r at : ℕ) : Type 0 where
+  pub place : (c : ℕ) → c ≤ taskCount tasks → at + c < length index
+  pub loses : 1 ≤ getD index (at + old) 0
+  pub gains : getD (set index (at + old) (getD index (at + old) 0 - 1)) (at + new) 0 + 1 ≤ horizon
+  pub moves : Moving tasks held tick old new (rowCount horizon)
+      (set (set index (at + old) (getD index (at + old) 0 - 1)) (at + new) (getD (set index (at + old) (getD index (at + old) 0 - 1)) (at + new) 0 + 1)) (r + 1)
 
-  number : (c : ℕ) → c ≤ taskCount tasks → getD index (at + c) 0 ≡ numberAt tasks held r c
-  unfolding numberAt
-  number c m =
-      ap (λ (n : ℕ). getD index (n + c) 0) begins
-      ∙ moving-held tasks held tick old new (rowCount horizon) index r c w there (omega arith)
+pub turn : (tasks : List ℕ) (horizon : ℕ) (held : List ℕ) (tick old new : ℕ) → Sized tasks horizon held → old ≤ taskCount tasks → new ≤ taskCount tasks → (old ≡ new → ⊥)
+    → strays tasks horizon held tick old new ≡ false → (index : List ℕ) (r at : ℕ) → Moving tasks held tick old new (rowCount horizon) index r
+    → r < rowCount horizon → tick < r * 64 → at ≡ r * rowWidth tasks → Turn tasks horizon held tick old new index r at
+unfolding indexNumber
+turn tasks horizon held tick old new size firstly lastly apart fine index r at w there past begins =
+    record {
+      place = λ c m. omega (arith, begins, place-within (rowWidth tasks) (rowCount horizon) r c there (omega arith), size .indexed, w .size);
+      loses = omega (arith, number old firstly, stay .some-left);
+      gains = omega (arith, getD-set-other index (at + old) (at + new) (getD index (at + old) 0 - 1) 0 (λ e. apart (omega arith)), number new lastly, stay .gains-most);
+      moves = subst
+          (λ (p : ℕ). Moving tasks held tick old new (rowCount horizon)
+          (set (set index (p + old) (getD index (p + old) 0 - 1)) (p + new) (getD (set index (p + old) (getD index (p + old) 0 - 1)) (p + new) 0 + 1)) (r + 1))
+          (sym begins)
+          (moving-more tasks held tick old new (rowCount horizon) apart (omega arith) (omega arith) (size .indexed) index r w there past);
+    }
+  where
+    stay : Stays horizon (indexNumber tasks held r old) (indexNumber tasks held r new)
+    stay = strays-fine tasks horizon held tick old new apart r there past fine
 
-  pub turn-place : (c : ℕ) → c ≤ taskCount tasks → at + c < length index
-  turn-place c m = omega (arith, begins, place-within (width tasks) (rowCount horizon) r c there (omega arith), size .indexed, w .size)
-
-  pub turn-loses : 1 ≤ getD index (at + old) 0
-  turn-loses = omega (arith, number old firstly, stay .some-left)
-
-  -- what is then read for the new column
-  pub turn-gains : getD (set index (at + old) (getD index (at + old) 0 - 1)) (at + new) 0 + 1 ≤ horizon
-  turn-gains =
-      let other : at + new ≡ at + old → ⊥ = λ e. apart (omega arith) in
-      omega (arith, getD-set-other index (at + old) (at + new) (getD index (at + old) 0 - 1) 0 other, number new lastly, stay .gains-most)
-
-  pub turn-moves : Moving tasks held tick old new (rowCount horizon) (set (set index (at + old) (getD index (at + old) 0 - 1)) (at + new) (getD (set index (at + old) (getD index (at + old) 0 - 1)) (at + new) 0 + 1)) (r + 1)
-  unfolding numberAt
-  turn-moves =
-      subst
-      (λ (p : ℕ). Moving tasks held tick old new (rowCount horizon) (set (set index (p + old) (getD index (p + old) 0 - 1)) (p + new) (getD (set index (p + old) (getD index (p + old) 0 - 1)) (p + new) 0 + 1)) (r + 1))
-      (sym begins)
-      (moving-more tasks held tick old new (rowCount horizon) apart (omega arith) (omega arith) (size .indexed) index r w there past)
+    number : (c : ℕ) → c ≤ taskCount tasks → getD index (at + c) 0 ≡ indexNumber tasks held r c
+    number c m = ap (λ (n : ℕ). getD index (n + c) 0) begins ∙ moving-held tasks held tick old new (rowCount horizon) index r c w there (omega arith)

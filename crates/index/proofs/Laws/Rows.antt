@@ -10,10 +10,11 @@ use native.Mathlib.Omega.{arith}
 use lib.ListN.{List·getD-append, drop, getD, length, length-append, length-drop, take, take-append-drop}
 use lib.Seq.{drop-at, drop-drop, drop-length, ext-getD, getD-append-add, getD-drop, getD-take, length-take-le, paste, take-at}
 use Rattle.bits.specs.Below.{listFrom}
-use Rattle.bits.proofs.Below.{getD-list, last-or-below, length-listFrom, list-same}
+use Rattle.bits.proofs.Laws.Below.{getD-list, last-or-below, length-listFrom, list-same}
+use Rattle.bits.proofs.Laws.Lists.{take-list}
 use Rattle.index.specs.Code.{countsOf}
-use Rattle.index.specs.Counts.{Given, ticks}
-use Rattle.index.specs.Rows.{rowNumber, table}
+use Rattle.index.specs.Counts.{Plan, ticks}
+use Rattle.index.specs.Rows.{rowNumber, rowByRow}
 
 -- a number of a row that is there stands before the rows' end
 pub place-within : (w n r c : ℕ) → r < n → c < w → r * w + c < n * w
@@ -39,92 +40,86 @@ place-apart w r c q d l m e = go (ℕ-discrete r q)
         less (no b) = let above : q < r = omega arith in absurd (omega (arith, mul-le-mul-right w above, suc-mul q w))
 
 module _ (w : ℕ) (f : ℕ → ℕ → ℕ) where
-  pub table-none : table w 0 f ≡ []
-  unfolding table
-  table-none = refl
+  pub row-by-row-none : rowByRow w 0 f ≡ []
+  unfolding rowByRow
+  row-by-row-none = refl
 
-  pub table-more : (n : ℕ) → table w (n + 1) f ≡ table w n f ++ listFrom 0 w (f n)
-  unfolding table
-  table-more n = rw (add-one, table)
+  pub row-by-row-more : (n : ℕ) → rowByRow w (n + 1) f ≡ rowByRow w n f ++ listFrom 0 w (f n)
+  unfolding rowByRow
+  row-by-row-more n = rw (add-one, rowByRow)
 
-  pub length-table : (n : ℕ) → length (table w n f) ≡ n * w
-  unfolding table
-  length-table zero = sym (zero-mul w)
-  length-table (suc n) =
-      length-append (table w n f) (listFrom 0 w (f n)) ∙ ap₂ (λ (x y : ℕ). x + y) (length-table n) (length-listFrom 0 w (f n)) ∙ sym (suc-mul n w)
+  pub length-row-by-row : (n : ℕ) → length (rowByRow w n f) ≡ n * w
+  unfolding rowByRow
+  length-row-by-row zero = sym (zero-mul w)
+  length-row-by-row (suc n) =
+      length-append (rowByRow w n f) (listFrom 0 w (f n)) ∙ ap₂ (λ (x y : ℕ). x + y) (length-row-by-row n) (length-listFrom 0 w (f n)) ∙ sym (suc-mul n w)
 
   -- each number at its place
-  pub table-at : (n r c : ℕ) → r < n → c < w → getD (table w n f) (r * w + c) 0 ≡ f r c
-  unfolding table
-  table-at zero r c l m = absurd (not-suc-le-zero l)
-  table-at (suc n) r c l m = go (last-or-below n r l) (table-at n r c)
+  pub row-by-row-at : (n r c : ℕ) → r < n → c < w → getD (rowByRow w n f) (r * w + c) 0 ≡ f r c
+  unfolding rowByRow
+  row-by-row-at zero r c l m = absurd (not-suc-le-zero l)
+  row-by-row-at (suc n) r c l m = go (last-or-below n r l) (row-by-row-at n r c)
     where
-      go : (r ≡ n) ⊎ (r < n) → (r < n → c < w → getD (table w n f) (r * w + c) 0 ≡ f r c) → getD (table w n f ++ listFrom 0 w (f n)) (r * w + c) 0 ≡ f r c
+      go : (r ≡ n) ⊎ (r < n) → (r < n → c < w → getD (rowByRow w n f) (r * w + c) 0 ≡ f r c) → getD (rowByRow w n f ++ listFrom 0 w (f n)) (r * w + c) 0 ≡ f r c
       go (inl e) ih =
-          let begins : r * w ≡ length (table w n f) = ap (λ (k : ℕ). k * w) e ∙ sym (length-table n) in
-          ap (λ (k : ℕ). getD (table w n f ++ listFrom 0 w (f n)) (k + c) 0) begins
-          ∙ getD-append-add (table w n f) (listFrom 0 w (f n)) c 0
+          let begins : r * w ≡ length (rowByRow w n f) = ap (λ (k : ℕ). k * w) e ∙ sym (length-row-by-row n) in
+          ap (λ (k : ℕ). getD (rowByRow w n f ++ listFrom 0 w (f n)) (k + c) 0) begins
+          ∙ getD-append-add (rowByRow w n f) (listFrom 0 w (f n)) c 0
           ∙ getD-list w (f n) c 0 m
           ∙ ap (λ (k : ℕ). f k c) (sym e)
       go (inr b) ih =
-          List·getD-append (table w n f) (listFrom 0 w (f n)) 0 (r * w + c) (omega (arith, place-within w n r c b m, length-table n)) ∙ ih b m
+          List·getD-append (rowByRow w n f) (listFrom 0 w (f n)) 0 (r * w + c) (omega (arith, place-within w n r c b m, length-row-by-row n)) ∙ ih b m
 
   -- a list with such numbers is the table
-  pub table-is : (l : List ℕ) (n : ℕ) → length l ≡ n * w → ((r c : ℕ) → r < n → c < w → getD l (r * w + c) 0 ≡ f r c) → l ≡ table w n f
-  unfolding table
-  table-is l zero e each = none l (e ∙ zero-mul w)
+  pub row-by-row-is : (l : List ℕ) (n : ℕ) → length l ≡ n * w → ((r c : ℕ) → r < n → c < w → getD l (r * w + c) 0 ≡ f r c) → l ≡ rowByRow w n f
+  unfolding rowByRow
+  row-by-row-is l zero e each = none l (e ∙ zero-mul w)
     where
       none : (k : List ℕ) → length k ≡ 0 → k ≡ []
       none [] e = refl
       none (x ∷ xs) e = absurd (omega arith)
-  table-is l (suc n) e each =
+  row-by-row-is l (suc n) e each =
       let long = suc-mul n w in
       let front : length (take (n * w) l) ≡ n * w = length-take-le (n * w) l (omega arith) in
       let back : length (drop (n * w) l) ≡ w = length-drop (n * w) l ∙ omega arith in
       sym (take-append-drop (n * w) l)
       ∙ ap₂ (λ (x y : List ℕ). x ++ y)
-      (table-is (take (n * w) l) n front (λ r c b m. getD-take (n * w) l (r * w + c) 0 (place-within w n r c b m) ∙ each r c (omega arith) m))
+      (row-by-row-is (take (n * w) l) n front (λ r c b m. getD-take (n * w) l (r * w + c) 0 (place-within w n r c b m) ∙ each r c (omega arith) m))
       (ext-getD 0 (drop (n * w) l) (listFrom 0 w (f n)) (back ∙ sym (length-listFrom 0 w (f n)))
       (λ c b. let m : c < w = omega arith in
       getD-drop (n * w) l c 0 ∙ each n c (omega arith) m ∙ sym (getD-list w (f n) c 0 m)))
 
   -- one row more is written behind those that are there
-  pub row-written : (r : ℕ) (held index counts : List ℕ) → index ≡ table w r f ++ drop (r * w) held → take w counts ≡ listFrom 0 w (f r)
-      → paste index (r * w) counts w ≡ table w (r + 1) f ++ drop ((r + 1) * w) held
+  pub row-written : (r : ℕ) (held index counts : List ℕ) → index ≡ rowByRow w r f ++ drop (r * w) held → take w counts ≡ listFrom 0 w (f r)
+      → paste index (r * w) counts w ≡ rowByRow w (r + 1) f ++ drop ((r + 1) * w) held
   row-written r held index counts wrote row =
-      let front : take (r * w) index ≡ table w r f = ap (take (r * w)) wrote ∙ take-at (table w r f) (drop (r * w) held) (r * w) (length-table r) in
-      let rest : drop (r * w) index ≡ drop (r * w) held = ap (drop (r * w)) wrote ∙ drop-at (table w r f) (drop (r * w) held) (r * w) (length-table r) in
+      let front : take (r * w) index ≡ rowByRow w r f = ap (take (r * w)) wrote ∙ take-at (rowByRow w r f) (drop (r * w) held) (r * w) (length-row-by-row r) in
+      let rest : drop (r * w) index ≡ drop (r * w) held = ap (drop (r * w)) wrote ∙ drop-at (rowByRow w r f) (drop (r * w) held) (r * w) (length-row-by-row r) in
       let ends : r * w + w ≡ (r + 1) * w = sym (suc-mul r w) ∙ ap (λ (k : ℕ). k * w) (sym (add-one r)) in
       ap₂ (λ (x y : List ℕ). x ++ y)
-      (ap₂ (λ (x y : List ℕ). x ++ y) front row ∙ sym (table-more r))
+      (ap₂ (λ (x y : List ℕ). x ++ y) front row ∙ sym (row-by-row-more r))
       (sym (drop-drop w (r * w) index) ∙ ap (drop w) rest ∙ drop-drop w (r * w) held ∙ ap (λ (k : ℕ). drop k held) ends)
 
-  pub rows-none : (held : List ℕ) → held ≡ table w 0 f ++ drop (0 * w) held
-  rows-none held = sym (ap₂ (λ (x y : List ℕ). x ++ y) table-none (ap (λ (k : ℕ). drop k held) (zero-mul w)))
+  pub rows-none : (held : List ℕ) → held ≡ rowByRow w 0 f ++ drop (0 * w) held
+  rows-none held = sym (ap₂ (λ (x y : List ℕ). x ++ y) row-by-row-none (ap (λ (k : ℕ). drop k held) (zero-mul w)))
 
   -- and the last row
-  pub last-written : (n r : ℕ) (held index counts : List ℕ) → r ≡ n → length held ≡ (n + 1) * w → index ≡ table w r f ++ drop (r * w) held
-      → take w counts ≡ listFrom 0 w (f r) → paste index (n * w) counts w ≡ table w (n + 1) f
+  pub last-written : (n r : ℕ) (held index counts : List ℕ) → r ≡ n → length held ≡ (n + 1) * w → index ≡ rowByRow w r f ++ drop (r * w) held
+      → take w counts ≡ listFrom 0 w (f r) → paste index (n * w) counts w ≡ rowByRow w (n + 1) f
   last-written n r held index counts e size wrote row =
       ap (λ (k : ℕ). paste index (k * w) counts w) (sym e)
       ∙ row-written r held index counts wrote row
-      ∙ ap₂ (λ (x y : List ℕ). x ++ y) (ap (λ (k : ℕ). table w (k + 1) f) e) (ap (λ (k : ℕ). drop ((k + 1) * w) held) e ∙ ap (λ (k : ℕ). drop k held) (sym size) ∙ drop-length held)
-      ∙ append-nil (table w (n + 1) f)
+      ∙ ap₂ (λ (x y : List ℕ). x ++ y) (ap (λ (k : ℕ). rowByRow w (k + 1) f) e) (ap (λ (k : ℕ). drop ((k + 1) * w) held) e ∙ ap (λ (k : ℕ). drop k held) (sym size) ∙ drop-length held)
+      ∙ append-nil (rowByRow w (n + 1) f)
 
 -- tables whose numbers agree
-pub table-same : (w n : ℕ) (f h : ℕ → ℕ → ℕ) → ((r c : ℕ) → r < n → c < w → f r c ≡ h r c) → table w n f ≡ table w n h
-unfolding table
-table-same w zero f h same = refl
-table-same w (suc n) f h same =
-    ap₂ (λ (x y : List ℕ). x ++ y) (table-same w n f h (λ r c l m. same r c (omega arith) m)) (list-same w (f n) (h n) (λ c m. same n c (omega arith) m))
+pub row-by-row-same : (w n : ℕ) (f h : ℕ → ℕ → ℕ) → ((r c : ℕ) → r < n → c < w → f r c ≡ h r c) → rowByRow w n f ≡ rowByRow w n h
+unfolding rowByRow
+row-by-row-same w zero f h same = refl
+row-by-row-same w (suc n) f h same =
+    ap₂ (λ (x y : List ℕ). x ++ y) (row-by-row-same w n f h (λ r c l m. same r c (omega arith) m)) (list-same w (f n) (h n) (λ c m. same n c (omega arith) m))
 
 -- the first w of the counts are a row
-take-list : (f : ℕ → ℕ) (i n w : ℕ) → w ≤ n → take w (listFrom i n f) ≡ listFrom i w f
-unfolding listFrom
-take-list f i n zero m = refl
-take-list f i zero (suc w) m = absurd (not-suc-le-zero m)
-take-list f i (suc n) (suc w) m = ap (λ (l : List ℕ). f i ∷ l) (take-list f (suc i) n w (omega arith))
-
-pub row-of-counts : (g : Given) (schedule : List ℕ) (r w : ℕ) → w ≤ 17 → take w (countsOf (g .lists) (take (r * 64) schedule)) ≡ listFrom 0 w (rowNumber g schedule r)
+pub row-of-counts : (g : Plan) (schedule : List ℕ) (r w : ℕ) → w ≤ 17 → take w (countsOf (g .lists) (take (r * 64) schedule)) ≡ listFrom 0 w (rowNumber g schedule r)
 unfolding countsOf rowNumber
-row-of-counts g schedule r w m = take-list (λ c. ticks (g .lists) c (take (r * 64) schedule)) 0 17 w m
+row-of-counts g schedule r w m = take-list (λ c. ticks (g .lists) c (take (r * 64) schedule)) 0 w 17 m

@@ -1,37 +1,35 @@
 -- What the checks find decides: the rows are written, or the index is as it was.
-use mathlib.Core.Path.{sym, _∙_}
+use mathlib.Core.Path.{sym, _∙_, _≡_}
 use borrow.Author.Needs.{needs}
-use Rattle.index.specs.Counts.{given}
-use Rattle.index.proofs.Laws.Answers.{build-given, build-keeps, build-known, build-length, build-writes}
+use Rattle.tables.specs.declared.answers.Outcome.the-variants.{Done}
+use Rattle.index.specs.Answers.{buildAnswer}
+use Rattle.index.specs.Counts.{plan}
+use Rattle.index.proofs.Laws.Answers.{build-given, build-keeps, build-jobs-or-idle, build-length, build-writes}
 use Rattle.index.proofs.Laws.Refusals.{given-checked, given-whole, sized}
 use Rattle.index.proofs.build.Statement.{statement}
 use Rattle.index.proofs.build.Tie as tie
 
+-- nothing is refused
+found : (c : tie.After-enum-told) → let a = c .before .before .before .before .before .before .before .before .args in
+    buildAnswer (plan (a .tasks .now) (a .jobs .now) (a .horizon)) (a .schedule .now) (a .index .now) ≡ Done
+found c = sym (c .before .before .check-build .ensures) ∙ c .enum-told .given .1
+
 write-rows-requires : tie.Need-write-rows-requires
 write-rows-requires c κs =
-    let told = c .before in
-    let a = told .before .before .before .before .before .before .before .before .args in
-    let g = given (a .tasks .now) (a .jobs .now) (a .horizon) in
-    let ok = sym (told .before .before .check-build .ensures) ∙ told .enum-told .given .1 in
-    let fine = build-given g (a .schedule .now) (a .index .now) ok in
-    (given-checked g _ fine, (sized g _ (a .index .now) fine (build-length g (a .schedule .now) (a .index .now) ok), (given-whole g _ fine, build-known g (a .schedule .now) (a .index .now) ok)))
+    let ok = found (c .before) in
+    let fine = build-given _ _ _ ok in
+    (given-checked _ _ fine, (sized _ _ _ fine (build-length _ _ _ ok), (given-whole _ _ fine, build-jobs-or-idle _ _ _ ok)))
 
 returns : tie.Need-returns
 returns c =
     let write = c .before .before in
-    let told = write .before .before in
-    let a = told .before .before .before .before .before .before .before .before .args in
-    let g = given (a .tasks .now) (a .jobs .now) (a .horizon) in
-    let ok = sym (told .before .before .check-build .ensures) ∙ told .enum-told .given .1 in
-    (sym ok, write .write-rows .ensures ∙ sym (build-writes g (a .schedule .now) (a .index .now) ok))
+    let ok = found (write .before .before) in
+    (sym ok, write .write-rows .ensures ∙ sym (build-writes _ _ _ ok))
 
 returns-2 : tie.Need-returns-2
 returns-2 c =
-    let told = c .before in
-    let a = told .before .before .before .before .before .before .before .before .args in
-    let g = given (a .tasks .now) (a .jobs .now) (a .horizon) in
-    let e = sym (told .before .before .check-build .ensures) ∙ told .found .given .1 in
-    (sym e, sym (build-keeps g (a .schedule .now) (a .index .now) _ _ e))
+    let e = sym (c .before .before .before .check-build .ensures) ∙ c .before .found .given .1 in
+    (sym e, sym (build-keeps _ _ _ _ _ e))
 
 pub build-spec : {M : Type 1} → statement M
 build-spec =

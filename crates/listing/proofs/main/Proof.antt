@@ -8,13 +8,5 @@ use Rattle.listing.proofs.main.Tie as tie
 pub main-spec : {M : Type 1} → statement M
 main-spec =
     tie.close
-    (tie.spec
-    (λ c. search needs)
-    (λ c κs. search needs)
-    (λ c. search needs)
-    (λ c. search needs)
-    (λ c κs. search needs)
-    (λ c. c .listing .ensures .1)
-    (λ c. sym (length-take-le _ _ (c .before .listing .ensures .1)))
-    (λ c κs. search needs)
-    (λ c. search needs))
+    (tie.spec (λ c. search needs) (λ c κs. search needs) (λ c. search needs) (λ c. search needs) (λ c κs. search needs) (λ c. c .listing .ensures .1)
+    (λ c. sym (length-take-le _ _ (c .before .listing .ensures .1))) (λ c κs. search needs) (λ c. search needs))

@@ -11,11 +11,12 @@ use lib.Dec.{eqb, ltb}
 use lib.ListN.{getD}
 use borrow.Author.Tests.{lt-ltb, ltb-true}
 use Rattle.bits.specs.Below.{some}
-use Rattle.bits.proofs.Below.{some-found, some-same, some-true}
-use Rattle.bits.proofs.Bools.{and-right, same-test}
+use Rattle.bits.proofs.Laws.Below.{some-found, some-same, some-true}
+use Rattle.bits.proofs.Laws.Bools.{and-right, same-test}
 use Rattle.tables.specs.declared.fields.Job.{Job}
 use Rattle.tables.specs.Fields.{jobAt}
-use Rattle.tables.specs.Tables.{Lists, arrival, criticality, deadline, deadlineInstant, execution, idle, jobCount, jobCriticality, jobNominal, jobPriority, lists, nominal, offset, priority, taskOf, zeroSlackInstant}
+use Rattle.tables.specs.Tables.{Lists, arrival, criticality, deadline, deadlineInstant, execution, idle, jobCount}
+use Rattle.tables.specs.Tables.{jobCriticality, jobNominal, jobPriority, lists, nominal, offset, priority, taskOf, zeroSlackInstant}
 use Rattle.zsrm.specs.declared.mode.Mode.{Mode}
 use Rattle.zsrm.specs.declared.record.Place.{Place}
 use Rattle.zsrm.specs.declared.record.Record.{Record}
@@ -25,11 +26,12 @@ use Rattle.zsrm.specs.declared.tie.Tie.the-variants.{Lowest}
 use Rattle.zsrm.specs.Given.{Given, given}
 use Rattle.zsrm.specs.Record.{arrived, arriving, doneAt, fresh, freshPlace, opening, placeAt, standingAt, suspendedAt, waitedAt}
 use Rattle.zsrm.specs.Run.{entriesBy, finalBy, replay, runEntries, runRecord}
-use Rattle.zsrm.specs.Tick.{advanced, alive, candidate, choice, doneAfter, eligible, ends, finishes, goesOn, higherPriority, moreCritical, over, pastZeroSlack, placeAfter, someJob, standingAfter, suspended, suspendedAfter, unfinished, waitedAfter, waits}
+use Rattle.zsrm.specs.Tick.{advanced, alive, candidate, choice, doneAfter, eligible, ends, finishes, goesOn, higherPriority}
+use Rattle.zsrm.specs.Tick.{moreCritical, over, pastZeroSlack, placeAfter, someJob, standingAfter, suspended, suspendedAfter, isUnfinished, waitedAfter, waits}
 use Rattle.zsrm.specs.Verdict.{verdict}
 use Rattle.zsrm.proofs.Laws.Choice.{choice-lowest}
 use Rattle.zsrm.proofs.Laws.Places.{place-advanced, place-fresh, tick-advanced, tick-fresh}
-use Rattle.others.proofs.Laws.Uppermost.{OneOf, Uppermost, taken, waits-is}
+use Rattle.others.proofs.Laws.Uppermost.{OneOf, Uppermost, takes-exactly, waits-is}
 
 -- where only the jobs of x pass a test, some of those of y pass one that agrees
 some-there : (m n k : ℕ) (x y : ℕ → ℕ) (f h : ℕ → Bool) → ((j : ℕ) → j < n → f j ≡ true → OneOf m x j) → ((i : ℕ) → i < m → y i < k)
@@ -46,7 +48,7 @@ pub record Matched (tasks a b : List ℕ) (m : ℕ) (x y : ℕ → ℕ) : Type 0
   pub jobs : (i : ℕ) → i < m → jobAt a (x i) ≡ jobAt b (y i)
 
 -- a record of either run
-pub record Same (m : ℕ) (x y : ℕ → ℕ) (r s : Record) : Type 0 where
+pub record SameForMembers (m : ℕ) (x y : ℕ → ℕ) (r s : Record) : Type 0 where
   pub tick : r .tick ≡ s .tick
   pub place : (i : ℕ) → i < m → placeAt r (x i) ≡ placeAt s (y i)
 
@@ -121,7 +123,7 @@ module _ {tasks a b : List ℕ} {m : ℕ} {x y : ℕ → ℕ} (w : Matched tasks
     unfolding someJob higherPriority
     some-higher = some-above jobPriority priority-same (λ j n p. w .one .as-high j i n l (le-of-lt p)) (λ j n p. w .other .as-high j i n l (le-of-lt p))
 
-  fresh-same : Same m x y (fresh a) (fresh b)
+  fresh-same : SameForMembers m x y (fresh a) (fresh b)
   unfolding freshPlace
   fresh-same =
       record {
@@ -131,7 +133,7 @@ module _ {tasks a b : List ℕ} {m : ℕ} {x y : ℕ → ℕ} (w : Matched tasks
             (sym (place-fresh b (y i) (omega (arith, w .other .known i l, w .other .few))));
       }
 
-  module _ (r s : Record) (like : Same m x y r s) where
+  module _ (r s : Record) (like : SameForMembers m x y r s) where
     done-same : (i : ℕ) → i < m → doneAt r (x i) ≡ doneAt s (y i)
     unfolding doneAt
     done-same i l = ap (λ (p : Place). p .done) (like .place i l)
@@ -142,7 +144,7 @@ module _ {tasks a b : List ℕ} {m : ℕ} {x y : ℕ → ℕ} (w : Matched tasks
 
     alive-same : (i : ℕ) → i < m → alive r (x i) ≡ alive s (y i)
     unfolding alive
-    alive-same i l = ap unfinished (standing-same i l)
+    alive-same i l = ap isUnfinished (standing-same i l)
 
     past-same : (i : ℕ) → i < m → pastZeroSlack g r (x i) ≡ pastZeroSlack h s (y i)
     unfolding pastZeroSlack
@@ -170,10 +172,10 @@ module _ {tasks a b : List ℕ} {m : ℕ} {x y : ℕ → ℕ} (w : Matched tasks
     runs-same : (i : ℕ) → i < m → eqb e (x i) ≡ eqb c (y i)
     runs-same i l =
         rw (choice-lowest g r, choice-lowest h s)
-        (taken g m x (w .one) r i l
+        (takes-exactly g m x (w .one) r i l
         ∙ ap₂ (λ (p q : Bool). p && not q) (candidate-same i l)
         (some-same (λ k. candidate g r (x k)) (λ k. candidate h s (y k)) i (λ k n. candidate-same k (omega arith)))
-        ∙ sym (taken h m y (w .other) s i l))
+        ∙ sym (takes-exactly h m y (w .other) s i l))
 
     done-after : (i : ℕ) → i < m → doneAfter g r e (x i) ≡ doneAfter h s c (y i)
     unfolding doneAfter
@@ -215,7 +217,7 @@ module _ {tasks a b : List ℕ} {m : ℕ} {x y : ℕ → ℕ} (w : Matched tasks
     unfolding placeAfter
     place-after i l = rw (done-after i l, suspended-after i l, waited-after i l, standing-same i l, standing-after i l (standingAt s (y i)))
 
-    advanced-same : Same m x y (advanced g r e) (advanced h s c)
+    advanced-same : SameForMembers m x y (advanced g r e) (advanced h s c)
     advanced-same =
         record {
           tick = tick-advanced g r e ∙ ap suc (like .tick) ∙ sym (tick-advanced h s c);
@@ -228,12 +230,12 @@ module _ {tasks a b : List ℕ} {m : ℕ} {x y : ℕ → ℕ} (w : Matched tasks
     unfolding verdict
     verdict-alike i l = rw (standing-same i l, due-same i l, like .tick)
 
-  final-same : (n : ℕ) (r s : Record) → Same m x y r s → Same m x y (finalBy g (choice g Lowest) r n) (finalBy h (choice h Lowest) s n)
+  final-same : (n : ℕ) (r s : Record) → SameForMembers m x y r s → SameForMembers m x y (finalBy g (choice g Lowest) r n) (finalBy h (choice h Lowest) s n)
   unfolding finalBy replay entriesBy
   final-same zero r s like = like
   final-same (suc n) r s like = final-same n _ _ (advanced-same r s like)
 
-  entry-same : (n : ℕ) (r s : Record) → Same m x y r s → (t : ℕ) → t < n → (i : ℕ) → i < m
+  entry-same : (n : ℕ) (r s : Record) → SameForMembers m x y r s → (t : ℕ) → t < n → (i : ℕ) → i < m
       → eqb (getD (entriesBy g (choice g Lowest) r n) t idle) (x i) ≡ eqb (getD (entriesBy h (choice h Lowest) s n) t idle) (y i)
   unfolding entriesBy
   entry-same zero r s like t b i l = absurd (not-suc-le-zero b)
@@ -241,7 +243,7 @@ module _ {tasks a b : List ℕ} {m : ℕ} {x y : ℕ → ℕ} (w : Matched tasks
   entry-same (suc n) r s like (suc t) b i l = entry-same n _ _ (advanced-same r s like) t (omega arith) i l
 
   -- our run of n ticks: its record, and who runs in each tick
-  pub run-alike : (n : ℕ) → Same m x y (runRecord g Lowest n) (runRecord h Lowest n)
+  pub run-alike : (n : ℕ) → SameForMembers m x y (runRecord g Lowest n) (runRecord h Lowest n)
   unfolding runRecord
   run-alike n = final-same n (fresh a) (fresh b) fresh-same
 

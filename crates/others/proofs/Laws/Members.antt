@@ -7,12 +7,12 @@ use mathlib.Core.Path.{ap, _≡_}
 use native.Mathlib.Omega.{arith}
 use lib.ListN.{length}
 use borrow.Author.Tests.{not-false}
-use Rattle.bits.proofs.Bools.{either}
+use Rattle.bits.proofs.Laws.Bools.{either}
 use Rattle.bits.proofs.Readings.{every-reads, le-reads, lt-reads, or-else}
-use Rattle.tables.specs.declared.outcome.Outcome.the-variants.{Done}
+use Rattle.tables.specs.declared.answers.Outcome.the-variants.{Done}
 use Rattle.tables.specs.Refusals.{checkLists}
 use Rattle.tables.specs.Tables.{criticality, jobCount, jobCriticality, jobPriority, lists, priority, taskCount, taskOf}
-use Rattle.tables.proofs.Laws.Accepted.{job, lists-few, lists-jobs}
+use Rattle.tables.proofs.Laws.Accepted.{accepted-job, lists-few, lists-jobs}
 use Rattle.others.specs.Others.{member, membersJobs, outsideLower, outsideNoMoreCritical, toEachMember}
 use Rattle.others.proofs.Laws.Passing.{listed}
 use Rattle.others.proofs.Laws.Uppermost.{OneOf, Uppermost}
@@ -49,7 +49,7 @@ members-uppermost set tasks jobs lower no-more-critical ok =
     }
   where
     known : (j : ℕ) → j < jobCount jobs → taskOf jobs j < taskCount tasks
-    known j l = job tasks jobs (lists-jobs (lists tasks jobs) ok) j l .known
+    known j l = accepted-job tasks jobs (lists-jobs (lists tasks jobs) ok) j l .known
 
     -- a job whose task cannot be outside
     inside : (j : ℕ) → j < jobCount jobs → (set (taskOf jobs j) ≡ false → ⊥) → OneOf (length (membersJobs set jobs)) (member set jobs) j

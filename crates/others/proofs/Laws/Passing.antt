@@ -8,8 +8,8 @@ use native.Mathlib.Nat.{not-suc-le-zero}
 use native.Mathlib.Omega.{arith}
 use lib.ListN.{getD, length, length-append, List·getD-append}
 use lib.Seq.{getD-at}
-use Rattle.bits.proofs.Below.{last-or-below}
-use Rattle.bits.proofs.Bools.{clash, either}
+use Rattle.bits.proofs.Laws.Below.{last-or-below}
+use Rattle.bits.proofs.Laws.Bools.{clash, either}
 use Rattle.others.specs.Others.{passing}
 
 module _ (f : ℕ → Bool) where

@@ -10,24 +10,26 @@ use lib.Dec.{eqb}
 use lib.ListN.{getD, length, length-map}
 use lib.Seq.{ext-getD}
 use borrow.Author.Tests.{le-ltb}
-use Rattle.tables.specs.declared.outcome.Outcome.the-variants.{Done}
+use Rattle.tables.specs.declared.answers.Outcome.the-variants.{Done}
 use Rattle.tables.specs.Fields.{jobAt}
-use Rattle.tables.specs.Refusals.{before, check9, checkLists, refuse}
+use Rattle.tables.specs.Refusals.{before, check9, checkLists, refuse, checkSchedule}
 use Rattle.tables.specs.Said.{done, outcomeSaid}
 use Rattle.tables.specs.Tables.{Lists, idle, jobCount, lists}
 use Rattle.tables.proofs.Laws.Said.{outcome-said}
+use Rattle.tables.proofs.Laws.Accepted.{accepted, schedule-checked}
 use Rattle.zsrm.specs.declared.mode.Mode.{Mode}
 use Rattle.zsrm.specs.declared.tie.Tie.{Tie}
 use Rattle.zsrm.specs.declared.tie.Tie.the-variants.{Lowest, Stay}
-use Rattle.zsrm.specs.Answers.{checkSchedule, runAnswer, runSchedule, verdictAnswer}
+use Rattle.zsrm.specs.Answers.{runAnswer, runSchedule, verdictAnswer}
 use Rattle.zsrm.specs.Given.{Given, given}
 use Rattle.zsrm.specs.Record.{placeAt}
 use Rattle.zsrm.specs.Verdict.{verdict}
-use Rattle.zsrm.proofs.Laws.Answers.{accepted, run-given, schedule-checked, verdict-answered}
-use Rattle.zsrm.proofs.Laws.Promises.{ran-consistent}
+use Rattle.zsrm.proofs.Laws.Answers.{run-given}
+use Rattle.zsrm.proofs.Laws.Verdicts.{verdict-answered}
+use Rattle.zsrm.proofs.Laws.GoOn.{ran-consistent}
 use Rattle.zsrm.proofs.Laws.Ties.{run-ties}
 use Rattle.others.specs.Others.{held, member, membersJobs, outsideLower, outsideNoMoreCritical, share, shares, ticksOf}
-use Rattle.others.proofs.Laws.Alike.{Matched, Same, entries-alike, run-alike, verdict-alike}
+use Rattle.others.proofs.Laws.Alike.{Matched, SameForMembers, entries-alike, run-alike, verdict-alike}
 use Rattle.others.proofs.Laws.Passing.{passing-same}
 use Rattle.others.proofs.Laws.Members.{members-uppermost}
 
@@ -91,7 +93,7 @@ module _ (set : ℕ → Bool) (tasks : List ℕ) (lower : outsideLower set tasks
         jobs = maps-at (jobAt a) (jobAt b) (membersJobs set a) (membersJobs set b) same;
       }
 
-  records-same : Same (length (membersJobs set a)) (member set a) (member set b) (runAnswer g Lowest horizon lent-a .«record») (runAnswer h Lowest horizon lent-b .«record»)
+  records-same : SameForMembers (length (membersJobs set a)) (member set a) (member set b) (runAnswer g Lowest horizon lent-a .«record») (runAnswer h Lowest horizon lent-b .«record»)
   records-same = rw (run-given g Lowest horizon lent-a ok-a .0, run-given h Lowest horizon lent-b ok-b .0) (run-alike matched mode horizon)
 
   runs-same : (i : ℕ) → i < length (membersJobs set a) → (t : ℕ) → t < horizon

@@ -9,8 +9,8 @@ use native.Mathlib.Omega.{arith}
 use lib.Dec.{eqb, ltb}
 use borrow.Author.Tests.{eq-eqb, eqb-true, lt-ltb, not-true}
 use Rattle.bits.specs.Below.{least, some}
-use Rattle.bits.proofs.Below.{none-passes, some-false}
-use Rattle.bits.proofs.Bools.{and-left, and-right, and-true, clash, fails, not-of, same-test}
+use Rattle.bits.proofs.Laws.Below.{none-passes, some-false}
+use Rattle.bits.proofs.Laws.Bools.{and-left, and-right, and-true, clash, never-true, not-of, same-test}
 use Rattle.bits.proofs.Readings.{least-reads}
 use Rattle.tables.specs.Tables.{Lists, idle, jobCount, jobCriticality, jobPriority}
 use Rattle.zsrm.specs.declared.record.Record.{Record}
@@ -41,9 +41,9 @@ module _ (g : Given) (m : ℕ) (x : ℕ → ℕ) (top : Uppermost (g .lists) m x
       go (no l) (no e) = absurd (omega (arith, top .order k i (omega arith) a))
 
   -- our run takes one of them exactly where it is a candidate and none of them before it is
-  pub taken : (k : ℕ) → k < m → eqb (lowest g r) (x k) ≡ (candidate g r (x k) && not (some k (λ i. candidate g r (x i))))
+  pub takes-exactly : (k : ℕ) → k < m → eqb (lowest g r) (x k) ≡ (candidate g r (x k) && not (some k (λ i. candidate g r (x i))))
   unfolding lowest
-  taken k b = same-test (eqb (lowest g r) (x k)) (candidate g r (x k) && not (some k before)) there back
+  takes-exactly k b = same-test (eqb (lowest g r) (x k)) (candidate g r (x k) && not (some k before)) there back
     where
       before : ℕ → Bool
       before i = candidate g r (x i)
@@ -65,7 +65,7 @@ module _ (g : Given) (m : ℕ) (x : ℕ → ℕ) (top : Uppermost (g .lists) m x
       back t =
           let c = and-left (candidate g r (x k)) _ t in
           let none = not-true _ (and-right (candidate g r (x k)) _ t) in
-          eq-eqb _ _ (first .1 (c, λ j l. fails (candidate g r j) (rival c none j l)))
+          eq-eqb _ _ (first .1 (c, λ j l. never-true (candidate g r j) (rival c none j l)))
 
 -- while a job is eligible our run's entry is a job, so it waits exactly where it is eligible and the entry is not its own
 pub waits-is : (g : Given) (tie : Tie) (r : Record) (j : ℕ) → j < jobCount (g .lists .jobs)

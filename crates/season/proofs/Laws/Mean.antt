@@ -10,18 +10,18 @@ use lib.Dec.{lit<, ltb}
 use lib.ListN.{length}
 use lib.Pow.{pow-add}
 use borrow.Author.Tests.{ltb-false, ltb-true}
-use Rattle.bits.proofs.Bools.{by-cond}
-use Rattle.decimal.specs.Decimal.{decimal, digits, size}
-use Rattle.decimal.proofs.Writing.{length-digits, size-more, size-most, size-one}
-use Rattle.season.specs.declared.report.Mean.{Mean}
-use Rattle.season.specs.declared.report.Mean.the-variants.{None, Of}
-use Rattle.season.specs.Mean.{meanSaid}
+use Rattle.bits.proofs.Laws.Bools.{apart}
+use Rattle.text.specs.Decimal.{decimal, size}
+use Rattle.text.proofs.Laws.Writing.{length-digits, size-more, size-most, size-one, size-some}
+use Rattle.season.specs.declared.answers.Mean.{Mean}
+use Rattle.season.specs.declared.answers.Mean.the-variants.{None, Of}
+use Rattle.season.specs.Said.{meanSaid}
 
 pub mean-said : (a b : Mean) → meanSaid a ≡ meanSaid b → a ≡ b
 unfolding meanSaid
 mean-said None None e = refl
-mean-said None (Of q r n) e = let z : _≡_ {A = ℕ} 0 1 = cc in absurd (omega arith)
-mean-said (Of q r n) None e = let z : _≡_ {A = ℕ} 0 1 = cc in absurd (omega arith)
+mean-said None (Of q r n) e = apart (cc)
+mean-said (Of q r n) None e = apart (cc)
 mean-said (Of q r n) (Of x y z) e = cc
 
 -- ## Digits
@@ -29,10 +29,6 @@ mean-said (Of q r n) (Of x y z) e = cc
 size-none : (x : ℕ) → size 0 x ≡ 0
 unfolding size
 size-none x = refl
-
-size-some : (n x : ℕ) → 1 ≤ size (suc n) x
-unfolding size
-size-some n x = by-cond (λ k. 1 ≤ k) (ltb x 10) 1 (suc (size n (x / 10))) (λ _. omega arith) (λ _. omega arith)
 
 -- a number of so many digits is at least the least of these
 tens : (n x : ℕ) → 10 ≤ x → (1 ≤ n → 10 ^ (size n (x / 10) - 1) ≤ x / 10) → 10 ^ size n (x / 10) ≤ x
@@ -74,16 +70,3 @@ pub mean-length : (s n : ℕ) → 0 < n → s < 4294967296 → length (decimal (
 unfolding decimal
 mean-length s n some small =
     omega (arith, mean-digits s n some (omega arith), size-most 10 (s % n), length-digits (size 10 (s / n)) (s / n), length-digits (size 10 (s % n)) (s % n), length-digits (size 10 n) n)
-
--- a task's number
-pub one-digit : (k : ℕ) → k < 10 → length (decimal k) ≤ 1
-unfolding decimal
-one-digit k h = omega (arith, length-digits (size 10 k) k, size-one 9 k h)
-
-pub two-digits : (k : ℕ) → k < 100 → length (decimal k) ≤ 2
-unfolding decimal
-two-digits k h = go (decLe 10 k)
-  where
-    go : Dec (10 ≤ k) → length (digits (size 10 k) k) ≤ 2
-    go (yes m) = omega (arith, length-digits (size 10 k) k, size-more 9 k m, size-one 8 (k / 10) (omega arith))
-    go (no m) = omega (arith, length-digits (size 10 k) k, size-one 9 k (omega arith))

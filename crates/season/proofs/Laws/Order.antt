@@ -9,33 +9,34 @@ use native.Mathlib.Omega.{arith}
 use lib.Dec.{ltb}
 use lib.ListN.{getD-replicate, replicate}
 use Rattle.bits.specs.Below.{listFrom}
-use Rattle.bits.proofs.Below.{list-same}
-use Rattle.bits.proofs.Bools.{by-cond}
-use Rattle.tables.specs.declared.outcome.Outcome.{Outcome}
-use Rattle.tables.specs.declared.outcome.Outcome.the-variants.{Done, Refused}
-use Rattle.tables.specs.Refusals.{before, unless}
+use Rattle.bits.proofs.Laws.Below.{list-same}
+use Rattle.bits.proofs.Laws.Bools.{by-cond, apart}
+use Rattle.tables.specs.declared.answers.Outcome.{Outcome}
+use Rattle.tables.specs.declared.answers.Outcome.the-variants.{Done, Refused}
+use Rattle.tables.specs.Refusals.{unless}
+use Rattle.tables.proofs.Laws.Refusals.{before-stops}
+use Rattle.tables.proofs.Laws.Said.{said-done}
 use Rattle.zsrm.specs.declared.record.Record.{Record}
+use Rattle.zsrm.specs.Answers.{checkVerdicts}
 use Rattle.zsrm.specs.Given.{Given}
-use Rattle.season.specs.declared.report.Report.{Report}
-use Rattle.season.specs.declared.report.Reported.{Reported}
-use Rattle.season.specs.declared.report.Row.{Row}
-use Rattle.season.specs.Own.{addAnswer, checkRun, ownReport}
-use Rattle.season.specs.Reports.{check18, emptyReport, joinAnswer, joined, joinedRow, reported, rowAt, rowBelow, rowCount, rowsOf}
-use Rattle.season.specs.Rows.{fits, joinRow, noJobs}
+use Rattle.season.specs.declared.answers.Report.{Report}
+use Rattle.season.specs.declared.answers.Reported.{Reported}
+use Rattle.season.specs.declared.answers.Row.{Row}
+use Rattle.season.specs.Own.{ownReport}
+use Rattle.season.specs.Answers.{addAnswer, joinAnswer, reported}
+use Rattle.season.specs.Reports.{check18, emptyReport, joined, joinedRow, rowAt, rowBelow, taskRows, rowsOf}
+use Rattle.season.specs.Rows.{fits, joinRow, emptyRow}
 use Rattle.season.specs.Season.{Alike, Same, andThen}
 use Rattle.season.specs.Show.{rowLine, rowLines, showing}
 use Rattle.season.proofs.Laws.Own.{add-done}
-use Rattle.season.proofs.Laws.Reports.{Joins, assoc-left, assoc-right, eighteen-or-done, join-done, join-refused, joined-assoc, joined-comm, joined-row, joins, joins-comm, joins-done, report-same, rows-same}
+use Rattle.season.proofs.Laws.Reports.{Joins, assoc-left, assoc-right, eighteen-or-done, join-done, join-refused, joined-assoc}
+use Rattle.season.proofs.Laws.Reports.{joined-comm, joined-row, joins, joins-comm, joins-done, report-same, rows-same}
 use Rattle.season.proofs.Laws.Rows.{Tidy, join-none, join-tidy}
-use Rattle.season.proofs.Laws.Season.{then-next, told-done}
+use Rattle.season.proofs.Laws.Season.{then-next}
 
 -- done and refused are never equal
 never : {A : Type 0} {o : Outcome} {number place : ℕ} → o ≡ Done → o ≡ Refused number place → A
-never p q = let z : _≡_ {A = ℕ} 0 1 = cc in absurd (omega arith)
-
-stops : (o x : Outcome) (number place : ℕ) → o ≡ Refused number place → before o x ≡ Refused number place
-unfolding before
-stops o x n p e = rw e
+never p q = apart (cc)
 
 rows-alike : (a c : Report) (n : ℕ) → ((k : ℕ) → k < n → rowAt a k ≡ rowAt c k) → rowLines a n ≡ rowLines c n
 unfolding rowLines
@@ -67,7 +68,7 @@ both-done x y r s p q e = (
 )
 
 both-refused : (x y : Reported) (number place : ℕ) → x .outcome ≡ Refused number place → y .outcome ≡ Refused number place → Alike x y
-both-refused x y n p e f = (e ∙ sym f, λ ok. never (told-done (x .outcome) .0 ok) e)
+both-refused x y n p e f = (e ∙ sym f, λ ok. never (said-done (x .outcome) .0 ok) e)
 
 -- ## Either way round
 
@@ -78,7 +79,8 @@ join-swaps a b = go (join-or-not a b)
     go (inl w) =
         both-done (joinAnswer a b) (joinAnswer b a) (joined a b) (joined b a) (answer-done a b w) (answer-done b a (joins-comm a b w)) (joined-comm a b (w .same-tasks))
     go (inr no-join) =
-        both-refused (joinAnswer a b) (joinAnswer b a) 18 0 (ap (λ (z : Reported). z .outcome) (answer-refused a b no-join)) (ap (λ (z : Reported). z .outcome) (answer-refused b a (λ w. no-join (joins-comm b a w))))
+        both-refused (joinAnswer a b) (joinAnswer b a) 18 0 (ap (λ (z : Reported). z .outcome) (answer-refused a b no-join))
+        (ap (λ (z : Reported). z .outcome) (answer-refused b a (λ w. no-join (joins-comm b a w))))
 
 -- ## Either two first
 
@@ -86,30 +88,20 @@ then-stops : (x : Reported) (next : Report → Reported) (number place : ℕ) �
 unfolding andThen unless
 then-stops x next n p e = rw e
 
+-- refused where the first two do not go together, or what is made of them is refused
+then-refused : (x y : Report) (next : Report → Reported) → (Joins x y → next (joined x y) .outcome ≡ Refused 18 0) → andThen (joinAnswer x y) next .outcome ≡ Refused 18 0
+then-refused x y next refused = go (join-or-not x y)
+  where
+    go : Joins x y ⊎ (Joins x y → ⊥) → andThen (joinAnswer x y) next .outcome ≡ Refused 18 0
+    go (inl w) = ap (λ (z : Reported). z .outcome) (then-next (joinAnswer x y) next (joined x y) (answer-done x y w)) ∙ refused w
+    go (inr no-join) = then-stops (joinAnswer x y) next 18 0 (ap (λ (z : Reported). z .outcome) (answer-refused x y no-join))
+
 module _ (a b c : Report) where
   abbrev first-two : Reported
   first-two = andThen (joinAnswer a b) (λ x. joinAnswer x c)
 
   abbrev last-two : Reported
   last-two = andThen (joinAnswer b c) (λ x. joinAnswer a x)
-
-  first-refused : (Joins a b × Joins (joined a b) c → ⊥) → first-two .outcome ≡ Refused 18 0
-  first-refused no-joins = go (join-or-not a b)
-    where
-      go : Joins a b ⊎ (Joins a b → ⊥) → first-two .outcome ≡ Refused 18 0
-      go (inl w) =
-          ap (λ (z : Reported). z .outcome)
-          (then-next (joinAnswer a b) (λ x. joinAnswer x c) (joined a b) (answer-done a b w) ∙ answer-refused (joined a b) c (λ v. no-joins (w, v)))
-      go (inr no-join) = then-stops (joinAnswer a b) (λ x. joinAnswer x c) 18 0 (ap (λ (z : Reported). z .outcome) (answer-refused a b no-join))
-
-  last-refused : (Joins b c × Joins a (joined b c) → ⊥) → last-two .outcome ≡ Refused 18 0
-  last-refused no-joins = go (join-or-not b c)
-    where
-      go : Joins b c ⊎ (Joins b c → ⊥) → last-two .outcome ≡ Refused 18 0
-      go (inl w) =
-          ap (λ (z : Reported). z .outcome)
-          (then-next (joinAnswer b c) (λ x. joinAnswer a x) (joined b c) (answer-done b c w) ∙ answer-refused a (joined b c) (λ v. no-joins (w, v)))
-      go (inr no-join) = then-stops (joinAnswer b c) (λ x. joinAnswer a x) 18 0 (ap (λ (z : Reported). z .outcome) (answer-refused b c no-join))
 
   all-join : (Joins a b × Joins (joined a b) c) ⊎ (Joins a b × Joins (joined a b) c → ⊥)
   all-join = go (join-or-not a b)
@@ -132,7 +124,10 @@ module _ (a b c : Report) where
           (then-next (joinAnswer a b) (λ x. joinAnswer x c) (joined a b) (answer-done a b (w .0)) ∙ answer-done (joined a b) c (w .1))
           (then-next (joinAnswer b c) (λ x. joinAnswer a x) (joined b c) (answer-done b c (v .0)) ∙ answer-done a (joined b c) (v .1))
           (joined-assoc a b c (w .0 .same-tasks))
-      go (inr no-joins) = both-refused first-two last-two 18 0 (first-refused no-joins) (last-refused (λ v. no-joins (assoc-left a b c (v .0) (v .1))))
+      go (inr no-joins) =
+          both-refused first-two last-two 18 0
+          (then-refused a b (λ x. joinAnswer x c) (λ w. ap (λ (z : Reported). z .outcome) (answer-refused (joined a b) c (λ v. no-joins (w, v)))))
+          (then-refused b c (λ x. joinAnswer a x) (λ w. ap (λ (z : Reported). z .outcome) (answer-refused a (joined b c) (λ v. no-joins (assoc-left a b c w v)))))
 
 -- ## What is not looked at
 
@@ -141,7 +136,7 @@ module _ (a b c d : Report) (v : Same a c) (w : Same b d) where
   same-joins j =
       record {
         same-tasks = sym (v .tasks-are) ∙ j .same-tasks ∙ w .tasks-are;
-        fit = λ k l. let m : k < rowCount (a .tasks) = omega (arith, v .tasks-are) in
+        fit = λ k l. let m : k < taskRows (a .tasks) = omega (arith, v .tasks-are) in
             ap₂ (λ (x y : Row). fits (joinRow x y)) (sym (v .rows-are k m)) (sym (w .rows-are k (omega (arith, j .same-tasks)))) ∙ j .fit k m;
       }
 
@@ -149,8 +144,8 @@ module _ (a b c d : Report) (v : Same a c) (w : Same b d) where
   unfolding joined joinedRow
   same-joined j =
       report-same (v .tasks-are)
-      (rows-same (rowCount (a .tasks)) (joinedRow a b) (joinedRow c d) (λ k l. ap₂ joinRow (v .rows-are k l) (w .rows-are k (omega (arith, j .same-tasks))))
-      ∙ ap (λ (t : ℕ). rowsOf (rowCount t) (joinedRow c d)) (v .tasks-are))
+      (rows-same (taskRows (a .tasks)) (joinedRow a b) (joinedRow c d) (λ k l. ap₂ joinRow (v .rows-are k l) (w .rows-are k (omega (arith, j .same-tasks))))
+      ∙ ap (λ (t : ℕ). rowsOf (taskRows t) (joinedRow c d)) (v .tasks-are))
 
 same-back : (a c : Report) → Same a c → Same c a
 same-back a c v = record { tasks-are = sym (v .tasks-are); rows-are = λ k l. sym (v .rows-are k (omega (arith, v .tasks-are))) }
@@ -167,60 +162,60 @@ join-same a b c d v w = go (join-or-not a b)
 -- a run is added alike, and the lines are the same
 pub add-same : (a c : Report) (g : Given) (run : Record) → Same a c → Alike (addAnswer a g run) (addAnswer c g run)
 unfolding addAnswer reported
-add-same a c g run v = go (checkRun g run) refl
+add-same a c g run v = go (checkVerdicts g run) refl
   where
     own : Report
     own = ownReport (g .lists) run
 
-    go : (o : Outcome) → checkRun g run ≡ o → Alike (addAnswer a g run) (addAnswer c g run)
+    go : (o : Outcome) → checkVerdicts g run ≡ o → Alike (addAnswer a g run) (addAnswer c g run)
     go Done ok =
         subst (λ (x : Reported). Alike x (addAnswer c g run)) (add-done g run a (joinAnswer a own) ok refl)
         (subst (Alike (joinAnswer a own)) (add-done g run c (joinAnswer c own) ok refl) (join-same a own c own v (record { tasks-are = refl; rows-are = λ k l. refl })))
     go (Refused n p) e =
-        both-refused (addAnswer a g run) (addAnswer c g run) n p (stops (checkRun g run) (check18 a own) n p e) (stops (checkRun g run) (check18 c own) n p e)
+        both-refused (addAnswer a g run) (addAnswer c g run) n p (before-stops (checkVerdicts g run) (check18 a own) n p e) (before-stops (checkVerdicts g run) (check18 c own) n p e)
 
 pub lines-same : (a c : Report) → Same a c → showing a ≡ showing c
 unfolding showing
-lines-same a c v = rows-alike a c (rowCount (a .tasks)) (v .rows-are) ∙ ap (λ (t : ℕ). rowLines c (rowCount t)) (v .tasks-are)
+lines-same a c v = rows-alike a c (taskRows (a .tasks)) (v .rows-are) ∙ ap (λ (t : ℕ). rowLines c (taskRows t)) (v .tasks-are)
 
 -- ## The empty report
 
 -- as a call makes reports: what is not looked at is 0, and so are least and greatest where no job has finished; every number fits
 pub record Neat (r : Report) : Type 0 where
-  pub rows-are : r .rows ≡ rowsOf (rowCount (r .tasks)) (rowAt r)
-  pub tidy : (k : ℕ) → k < rowCount (r .tasks) → Tidy (rowAt r k)
-  pub fit : (k : ℕ) → k < rowCount (r .tasks) → fits (rowAt r k) ≡ true
+  pub rows-are : r .rows ≡ rowsOf (taskRows (r .tasks)) (rowAt r)
+  pub tidy : (k : ℕ) → k < taskRows (r .tasks) → Tidy (rowAt r k)
+  pub fit : (k : ℕ) → k < taskRows (r .tasks) → fits (rowAt r k) ≡ true
 
 pub joined-neat : (a b : Report) → Joins a b → Neat (joined a b)
 unfolding joined joinedRow
 joined-neat a b w =
     record {
-      rows-are = rows-same (rowCount (a .tasks)) (joinedRow a b) (rowAt (joined a b)) (λ k l. sym (joined-row a b k l));
+      rows-are = rows-same (taskRows (a .tasks)) (joinedRow a b) (rowAt (joined a b)) (λ k l. sym (joined-row a b k l));
       tidy = λ k l. rw (joined-row a b k l) (join-tidy (rowAt a k) (rowAt b k));
       fit = λ k l. ap fits (joined-row a b k l) ∙ w .fit k l;
     }
 
-empty-row : (n k : ℕ) → k < 16 → rowAt (emptyReport n) k ≡ noJobs
+empty-row : (n k : ℕ) → k < 16 → rowAt (emptyReport n) k ≡ emptyRow
 unfolding rowAt emptyReport
-empty-row n k l = getD-replicate 16 k noJobs noJobs l
+empty-row n k l = getD-replicate 16 k emptyRow emptyRow l
 
 -- sixteen rows without jobs
-none-below : (n : ℕ) (f : ℕ → Row) → ((k : ℕ) → k < 16 → f k ≡ noJobs) → replicate 16 noJobs ≡ rowsOf n f
+none-below : (n : ℕ) (f : ℕ → Row) → ((k : ℕ) → k < 16 → f k ≡ emptyRow) → replicate 16 emptyRow ≡ rowsOf n f
 unfolding rowsOf rowBelow listFrom
 none-below n f none =
-    list-same 16 (λ _. noJobs) (rowBelow n f) (λ k l. by-cond (λ x. noJobs ≡ x) (ltb k n) (f k) noJobs (λ _. sym (none k l)) (λ _. refl))
+    list-same 16 (λ _. emptyRow) (rowBelow n f) (λ k l. by-cond (λ x. emptyRow ≡ x) (ltb k n) (f k) emptyRow (λ _. sym (none k l)) (λ _. refl))
 
 pub empty-neat : (n : ℕ) → Neat (emptyReport n)
 unfolding emptyReport fits
 empty-neat n =
     record {
-      rows-are = none-below (rowCount n) (rowAt (emptyReport n)) (empty-row n);
+      rows-are = none-below (taskRows n) (rowAt (emptyReport n)) (empty-row n);
       tidy = λ k l. rw (empty-row n k (omega arith)) (λ h. (refl, refl));
       fit = λ k l. ap fits (empty-row n k (omega arith));
     }
 
 module _ (r : Report) (w : Neat r) where
-  with-none : (k : ℕ) → k < rowCount (r .tasks) → joinRow (rowAt r k) (rowAt (emptyReport (r .tasks)) k) ≡ rowAt r k
+  with-none : (k : ℕ) → k < taskRows (r .tasks) → joinRow (rowAt r k) (rowAt (emptyReport (r .tasks)) k) ≡ rowAt r k
   with-none k l = ap (joinRow (rowAt r k)) (empty-row (r .tasks) k (omega arith)) ∙ join-none (rowAt r k) (w .tidy k l)
 
   joins-empty : Joins r (emptyReport (r .tasks))
@@ -229,7 +224,7 @@ module _ (r : Report) (w : Neat r) where
 
   joined-empty : joined r (emptyReport (r .tasks)) ≡ r
   unfolding joined joinedRow
-  joined-empty = report-same refl (rows-same (rowCount (r .tasks)) (joinedRow r (emptyReport (r .tasks))) (rowAt r) with-none ∙ sym (w .rows-are))
+  joined-empty = report-same refl (rows-same (taskRows (r .tasks)) (joinedRow r (emptyReport (r .tasks))) (rowAt r) with-none ∙ sym (w .rows-are))
 
   pub empty-right : joinAnswer r (emptyReport (r .tasks)) ≡ record { outcome = Done; report = r }
   empty-right =

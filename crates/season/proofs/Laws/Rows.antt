@@ -8,10 +8,10 @@ use native.Mathlib.Nat.{zero-add}
 use native.Mathlib.Omega.{arith}
 use lib.Dec.{leb, ltb}
 use borrow.Author.Tests.{le-leb, lt-ltb, ltb-true}
-use Rattle.bits.proofs.Bools.{passed}
-use Rattle.season.specs.declared.report.Row.{Row}
-use Rattle.season.specs.Code.{Room}
-use Rattle.season.specs.Rows.{Held, among, fits, joinRow, most, noJobs, someFinished}
+use Rattle.bits.proofs.Laws.Bools.{passed}
+use Rattle.season.specs.declared.answers.Row.{Row}
+use Rattle.season.specs.Code.{Joinable}
+use Rattle.season.specs.Rows.{Held, among, fits, joinRow, most, emptyRow, someFinished}
 
 -- a row by its numbers
 abbrev row : ℕ → ℕ → ℕ → ℕ → ℕ → ℕ → ℕ → ℕ → Row
@@ -19,11 +19,6 @@ row m l e o n s x y = record { met = m; late = l; ended = e; «open» = o; finis
 
 same : {m m′ l l′ e e′ o o′ n n′ s s′ x x′ y y′ : ℕ} → m ≡ m′ → l ≡ l′ → e ≡ e′ → o ≡ o′ → n ≡ n′ → s ≡ s′ → x ≡ x′ → y ≡ y′ → row m l e o n s x y ≡ row m′ l′ e′ o′ n′ s′ x′ y′
 same a b c d e f g h = rw (a, b, c, d, e, f, g, h)
-
--- equal numbers are equal rows
-pub row-same : (a b : Row) → a .met ≡ b .met → a .late ≡ b .late → a .ended ≡ b .ended → a .«open» ≡ b .«open» → a .finished ≡ b .finished → a .sum ≡ b .sum
-    → a .least ≡ b .least → a .greatest ≡ b .greatest → a ≡ b
-row-same a b m l e o n s x y = same m l e o n s x y
 
 -- among two sides, either way round; and among three, either two first
 among-comm : (p q : Bool) (x y : ℕ) {b c : ℕ} → b ≡ c → among p x q y b ≡ among q y p x c
@@ -66,9 +61,11 @@ join-assoc a b c =
         → among (ltb 0 (a .finished + b .finished)) (among (someFinished a) x (someFinished b) y (f x y)) (someFinished c) z (f (among (someFinished a) x (someFinished b) y (f x y)) z)
         ≡ among (someFinished a) x (ltb 0 (b .finished + c .finished)) (among (someFinished b) y (someFinished c) z (f y z)) (f x (among (someFinished b) y (someFinished c) z (f y z)))
     three f x y z e =
-        ap (λ (p : Bool). among p (among (someFinished a) x (someFinished b) y (f x y)) (someFinished c) z (f (among (someFinished a) x (someFinished b) y (f x y)) z)) (some-joined (a .finished) (b .finished))
+        ap (λ (p : Bool). among p (among (someFinished a) x (someFinished b) y (f x y)) (someFinished c) z (f (among (someFinished a) x (someFinished b) y (f x y)) z))
+        (some-joined (a .finished) (b .finished))
         ∙ among-assoc f (someFinished a) (someFinished b) (someFinished c) x y z e
-        ∙ ap (λ (p : Bool). among (someFinished a) x p (among (someFinished b) y (someFinished c) z (f y z)) (f x (among (someFinished b) y (someFinished c) z (f y z)))) (sym (some-joined (b .finished) (c .finished)))
+        ∙ ap (λ (p : Bool). among (someFinished a) x p (among (someFinished b) y (someFinished c) z (f y z)) (f x (among (someFinished b) y (someFinished c) z (f y z))))
+        (sym (some-joined (b .finished) (c .finished)))
 
 -- Least and greatest are 0 where no job has finished.
 abbrev pub Tidy : Row → Type 0
@@ -86,7 +83,7 @@ join-tidy a b h =
     none false false x y both e = refl
 
 -- A row without jobs changes no other such row.
-pub join-none : (r : Row) → Tidy r → joinRow r noJobs ≡ r
+pub join-none : (r : Row) → Tidy r → joinRow r emptyRow ≡ r
 unfolding joinRow
 join-none r tidy =
     same (omega arith) (omega arith) (omega arith) (omega arith) (omega arith) (omega arith)
@@ -96,8 +93,8 @@ join-none r tidy =
     kept true x both h = refl
     kept false x both h = sym (h refl)
 
-pub none-join : (r : Row) → Tidy r → joinRow noJobs r ≡ r
-none-join r tidy = join-comm noJobs r ∙ join-none r tidy
+pub none-join : (r : Row) → Tidy r → joinRow emptyRow r ≡ r
+none-join r tidy = join-comm emptyRow r ∙ join-none r tidy
 
 -- the tests as the code makes them
 pub fits-tests : (a b : Row) {m l e o n s : Bool} → m ≡ leb (a .met + b .met) most → l ≡ leb (a .late + b .late) most → e ≡ leb (a .ended + b .ended) most
@@ -107,30 +104,37 @@ unfolding fits joinRow
 fits-tests a b p q r t u v = rw (p, q, r, t, u, v)
 
 -- as it is tested, and as it is said
-pub held : (r : Row) → fits r ≡ true → Held r
+pub fits-held : (r : Row) → fits r ≡ true → Held r
 unfolding fits
-held r h =
+fits-held r h =
     record { met = search passed depth 7; late = search passed depth 7; ended = search passed depth 7; «open» = search passed depth 7; finished = search passed depth 7; sum = search passed depth 7 }
 
-pub holds : (r : Row) → Held r → fits r ≡ true
+pub held-fits : (r : Row) → Held r → fits r ≡ true
 unfolding fits
-holds r w =
-    rw (le-leb (r .met) most (w .met), le-leb (r .late) most (w .late), le-leb (r .ended) most (w .ended), le-leb (r .«open») most (w .«open»), le-leb (r .finished) most (w .finished), le-leb (r .sum) most (w .sum))
+held-fits r w =
+    rw (
+      le-leb (r .met) most (w .met),
+      le-leb (r .late) most (w .late),
+      le-leb (r .ended) most (w .ended),
+      le-leb (r .«open») most (w .«open»),
+      le-leb (r .finished) most (w .finished),
+      le-leb (r .sum) most (w .sum),
+    )
 
 -- counts and sums only grow
 pub fits-left : (a b : Row) → fits (joinRow a b) ≡ true → fits a ≡ true
 unfolding joinRow
 fits-left a b h =
-    let w = held (joinRow a b) h in
-    holds a (record { met = omega arith; late = omega arith; ended = omega arith; «open» = omega arith; finished = omega arith; sum = omega arith })
+    let w = fits-held (joinRow a b) h in
+    held-fits a (record { met = omega arith; late = omega arith; ended = omega arith; «open» = omega arith; finished = omega arith; sum = omega arith })
 
 pub fits-right : (a b : Row) → fits (joinRow a b) ≡ true → fits b ≡ true
 fits-right a b h = fits-left b a (ap fits (join-comm b a) ∙ h)
 
-pub room : (a b : Row) → fits (joinRow a b) ≡ true → Room a b
+pub joinable : (a b : Row) → fits (joinRow a b) ≡ true → Joinable a b
 unfolding joinRow
-room a b h =
-    let w = held (joinRow a b) h in
+joinable a b h =
+    let w = fits-held (joinRow a b) h in
     record { met = w .met; late = w .late; ended = w .ended; «open» = w .«open»; finished = w .finished; sum = w .sum }
 
 -- the joined row as the code makes it

@@ -2,36 +2,32 @@
 use Prim.Native.Nat.{ℕ, zero, suc, _<_, _≤_}
 use mathlib.Core.Bool.{true}
 use mathlib.Core.List.{List, [], _∷_, _++_, append-assoc, append-nil, List·Memᴰ, List·Memᴰ·head, List·Memᴰ·tail, List·Permᴰ, List·Permᴰ·nil, List·Permᴰ·cons, List·Permᴰ·swap, List·Permᴰ·trans}
-use mathlib.Core.Logic.{_↔_}
 use mathlib.Core.Path.{ap, ap₂, refl, subst, sym, _∙_, _≡_}
 use native.Mathlib.Omega.{arith}
 use lib.Dec.{eqb, ltb}
 use Rattle.bits.specs.Below.{listFrom}
-use Rattle.bits.proofs.Below.{getD-list, list-same}
-use Rattle.bits.proofs.Bools.{by-cond}
-use Rattle.tables.specs.declared.outcome.Outcome.{Outcome}
-use Rattle.tables.specs.declared.outcome.Outcome.the-variants.{Done, Refused}
+use Rattle.bits.proofs.Laws.Below.{getD-list, list-same}
+use Rattle.bits.proofs.Laws.Bools.{by-cond}
+use Rattle.tables.specs.declared.answers.Outcome.{Outcome}
+use Rattle.tables.specs.declared.answers.Outcome.the-variants.{Done, Refused}
 use Rattle.tables.specs.Refusals.{before, checkTasks, unless}
-use Rattle.tables.specs.Said.{done, outcomeSaid}
 use Rattle.tables.specs.Tables.{Lists, jobCount, lists, taskCount, taskOf}
 use Rattle.tables.proofs.Laws.Refusals.{before-first, before-second}
-use Rattle.tables.proofs.Laws.Said.{outcome-said}
+use Rattle.tables.proofs.Laws.Said.{said-done}
+use Rattle.tables.proofs.Laws.Accepted.{few-tasks}
 use Rattle.zsrm.specs.declared.record.Record.{Record}
-use Rattle.season.specs.declared.report.Report.{Report}
-use Rattle.season.specs.declared.report.Reported.{Reported}
-use Rattle.season.specs.declared.report.Row.{Row}
-use Rattle.season.specs.Own.{addAnswer, checkRun, jobRowAt, ownReport, ownRow, ownUpTo}
-use Rattle.season.specs.Reports.{check18, emptyAnswer, emptyReport, joinAnswer, joined, joinedRow, reported, rowAt, rowBelow, rowCount, rowsOf}
-use Rattle.season.specs.Rows.{fits, joinRow, noJobs}
-use Rattle.season.specs.Season.{Accepted, AllAccepted, Fitting, Run, Season, addAll, added, andThen, begun, givenOf, merged, reportOver, rowIn, runsOf, seasonAnswer, totalRow}
+use Rattle.season.specs.declared.answers.Report.{Report}
+use Rattle.season.specs.declared.answers.Reported.{Reported}
+use Rattle.season.specs.declared.answers.Row.{Row}
+use Rattle.zsrm.specs.Answers.{checkVerdicts}
+use Rattle.season.specs.Own.{jobRowAt, ownReport, ownRow, ownUpTo}
+use Rattle.season.specs.Answers.{addAnswer, emptyAnswer, joinAnswer, reported}
+use Rattle.season.specs.Reports.{check18, emptyReport, joined, joinedRow, rowAt, rowBelow, taskRows, rowsOf}
+use Rattle.season.specs.Rows.{fits, joinRow, emptyRow}
+use Rattle.season.specs.Season.{Accepted, AllAccepted, Fitting, Run, Season, addAll, added, andThen, begun, runGiven, merged, reportOver, rowIn, runsOf, seasonAnswer, totalRow}
 use Rattle.season.proofs.Laws.Own.{add-done}
-use Rattle.season.proofs.Laws.Reports.{Joins, few-tasks, join-done, joins, joins-done, report-same, reported-done, row-below, row-of, rows-same}
+use Rattle.season.proofs.Laws.Reports.{Joins, join-done, joins, joins-done, report-same, reported-done, row-below, row-of, rows-same}
 use Rattle.season.proofs.Laws.Rows.{Tidy, fits-left, fits-right, join-assoc, join-comm, join-none, join-tidy, none-join}
-
--- done, as it is said
-pub told-done : (o : Outcome) → outcomeSaid o ≡ done ↔ o ≡ Done
-unfolding outcomeSaid
-told-done o = (outcome-said o Done, ap outcomeSaid)
 
 -- ## Rows
 
@@ -102,7 +98,7 @@ module _ (tasks : List ℕ) where
   each-accepted (List·Memᴰ·tail m) w = each-accepted m (w .1)
 
   pub fitting-few : (runs : List Run) → Fitting tasks runs → taskCount tasks ≤ 16
-  fitting-few runs w = few-tasks tasks (told-done (checkTasks tasks) .0 (w .table))
+  fitting-few runs w = few-tasks tasks (said-done (checkTasks tasks) .0 (w .table))
 
   pub fitting-order : {xs ys : List Run} → List·Permᴰ xs ys → Fitting tasks xs → Fitting tasks ys
   fitting-order d w =
@@ -150,7 +146,7 @@ module _ (n : ℕ) (few : n ≤ 16) (f h : ℕ → Row) (a b : Report) (v : Hold
   joined-of : joined a b ≡ record { tasks = n; rows = rowsOf n (λ k. joinRow (f k) (h k)) }
   unfolding joined joinedRow
   joined-of =
-      let same : rowCount (a .tasks) ≡ n = omega (arith, v .count, few) in
+      let same : taskRows (a .tasks) ≡ n = omega (arith, v .count, few) in
       report-same (v .count)
       (ap (λ (m : ℕ). rowsOf m (joinedRow a b)) same ∙ rows-same n (joinedRow a b) (λ k. joinRow (f k) (h k)) (λ k l. ap₂ joinRow (v .row k l) (w .row k l)))
 
@@ -171,7 +167,7 @@ module _ (tasks : List ℕ) (few : taskCount tasks ≤ 16) where
   own-holds run =
       record {
         count = refl;
-        row = λ k l. getD-list 16 (λ i. rowIn tasks i run) k noJobs (omega arith) ∙ sym (total-one tasks k run);
+        row = λ k l. getD-list 16 (λ i. rowIn tasks i run) k emptyRow (omega arith) ∙ sym (total-one tasks k run);
       }
 
   -- two reports over runs, joined
@@ -207,20 +203,20 @@ empty-over : (tasks : List ℕ) → emptyReport (taskCount tasks) ≡ reportOver
 unfolding emptyReport reportOver totalRow rowsOf rowBelow listFrom
 empty-over tasks =
     report-same refl
-    (list-same 16 (λ _. noJobs) (rowBelow (taskCount tasks) (λ _. noJobs)) (λ k l. by-cond (λ r. noJobs ≡ r) (ltb k (taskCount tasks)) noJobs noJobs (λ _. refl) (λ _. refl)))
+    (list-same 16 (λ _. emptyRow) (rowBelow (taskCount tasks) (λ _. emptyRow)) (λ k l. by-cond (λ r. emptyRow ≡ r) (ltb k (taskCount tasks)) emptyRow emptyRow (λ _. refl) (λ _. refl)))
 
 module _ (tasks : List ℕ) where
   pub season-made : (s : Season) → Fitting tasks (runsOf s) → seasonAnswer tasks s ≡ record { outcome = Done; report = reportOver tasks (runsOf s) }
   unfolding seasonAnswer runsOf emptyAnswer
   season-made begun w =
-      reported-done (emptyReport 0) (emptyReport (taskCount tasks)) (checkTasks tasks) (told-done (checkTasks tasks) .0 (w .table))
+      reported-done (emptyReport 0) (emptyReport (taskCount tasks)) (checkTasks tasks) (said-done (checkTasks tasks) .0 (w .table))
       ∙ ap (λ (r : Report). let y : Reported = record { outcome = Done; report = r } in y) (empty-over tasks)
   season-made (added s run) w =
       let few = fitting-few tasks (runsOf s ++ (run ∷ [])) w in
       let before = reportOver tasks (runsOf s) in
       let own = ownReport (lists tasks (run .jobs)) (run .returned) in
-      then-next (seasonAnswer tasks s) (λ r. addAnswer r (givenOf tasks run) (run .returned)) before (season-made s (fitting-left tasks (runsOf s) (run ∷ []) w))
-      ∙ sym (add-done (givenOf tasks run) (run .returned) before (joinAnswer before own) (told-done _ .0 (all-right tasks (runsOf s) (run ∷ []) (w .each) .0)) refl)
+      then-next (seasonAnswer tasks s) (λ r. addAnswer r (runGiven tasks run) (run .returned)) before (season-made s (fitting-left tasks (runsOf s) (run ∷ []) w))
+      ∙ sym (add-done (runGiven tasks run) (run .returned) before (joinAnswer before own) (said-done _ .0 (all-right tasks (runsOf s) (run ∷ []) (w .each) .0)) refl)
       ∙ over-joined tasks few (runsOf s) (run ∷ []) before own (over-holds tasks few (runsOf s)) (own-holds tasks few run) w
   season-made (merged s t) w =
       let few = fitting-few tasks (runsOf s ++ runsOf t) w in
@@ -232,19 +228,20 @@ module _ (tasks : List ℕ) where
 
   pub season-fitting : (s : Season) → seasonAnswer tasks s .outcome ≡ Done → Fitting tasks (runsOf s)
   unfolding seasonAnswer runsOf emptyAnswer reported addAnswer joinAnswer totalRow fits
-  season-fitting begun ok = record { table = told-done (checkTasks tasks) .1 ok; each = tt; totals = λ k l. refl }
+  season-fitting begun ok = record { table = said-done (checkTasks tasks) .1 ok; each = tt; totals = λ k l. refl }
   season-fitting (added s run) ok =
-      let next : Report → Reported = λ r. addAnswer r (givenOf tasks run) (run .returned) in
+      let next : Report → Reported = λ r. addAnswer r (runGiven tasks run) (run .returned) in
       let w = season-fitting s (then-first (seasonAnswer tasks s) next ok) in
       let few = fitting-few tasks (runsOf s) w in
       let a = reportOver tasks (runsOf s) in
       let own = ownReport (lists tasks (run .jobs)) (run .returned) in
-      let last : before (checkRun (givenOf tasks run) (run .returned)) (check18 a own) ≡ Done
+      let last : before (checkVerdicts (runGiven tasks run) (run .returned)) (check18 a own) ≡ Done
       = ap (λ (x : Reported). x .outcome) (sym (then-next (seasonAnswer tasks s) next a (season-made s w))) ∙ ok in
       record {
         table = w .table;
-        each = all-append tasks (runsOf s) (run ∷ []) (w .each) (told-done _ .1 (before-first (checkRun (givenOf tasks run) (run .returned)) _ last), tt);
-        totals = over-fits tasks few (runsOf s) (run ∷ []) a own (over-holds tasks few (runsOf s)) (own-holds tasks few run) (before-second (checkRun (givenOf tasks run) (run .returned)) _ last);
+        each = all-append tasks (runsOf s) (run ∷ []) (w .each) (said-done _ .1 (before-first (checkVerdicts (runGiven tasks run) (run .returned)) _ last), tt);
+        totals = over-fits tasks few (runsOf s) (run ∷ []) a own (over-holds tasks few (runsOf s)) (own-holds tasks few run)
+            (before-second (checkVerdicts (runGiven tasks run) (run .returned)) _ last);
       }
   season-fitting (merged s t) ok =
       let first : Report → Reported = λ x. andThen (seasonAnswer tasks t) (λ y. joinAnswer x y) in

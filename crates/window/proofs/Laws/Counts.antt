@@ -7,13 +7,10 @@ use native.Mathlib.Nat.{not-suc-le-zero}
 use native.Mathlib.Omega.{arith}
 use lib.ListN.{drop, getD, length, length-drop, take}
 use lib.Seq.{getD-drop, getD-take, length-take-le, take-add}
+use Rattle.bits.proofs.Laws.Bools.{at-most-one}
 use Rattle.zsrm.specs.declared.answers.Verdict.{Verdict}
 use Rattle.zsrm.specs.Verdict.{missed}
 use Rattle.window.specs.Windows.{howMany, misses, window}
-
-pub at-most-one : (b : Bool) → cond b 1 0 ≤ 1
-at-most-one true = omega arith
-at-most-one false = omega arith
 
 one-rise : (a b : Bool) → (a ≡ true → b ≡ true) → cond a 1 0 ≤ cond b 1 0
 one-rise true b h = rw (h refl) (omega arith)
@@ -53,11 +50,11 @@ module _ (test : Verdict → Bool) where
   many-none d [] h = refl
   many-none d (v ∷ vs) h = rw (h 0 (omega arith)) (omega (arith, many-none d vs (λ p l. h (suc p) (omega arith))))
 
-  pub none-passes : (d : Verdict) (vs : List Verdict) → howMany test vs ≡ 0 → (p : ℕ) → p < length vs → test (getD vs p d) ≡ false
+  pub none-counted : (d : Verdict) (vs : List Verdict) → howMany test vs ≡ 0 → (p : ℕ) → p < length vs → test (getD vs p d) ≡ false
   unfolding howMany
-  none-passes d [] e p l = absurd (not-suc-le-zero l)
-  none-passes d (v ∷ vs) e zero l = one-none (test v) (howMany test vs) e
-  none-passes d (v ∷ vs) e (suc p) l = none-passes d vs (omega arith) p (omega arith)
+  none-counted d [] e p l = absurd (not-suc-le-zero l)
+  none-counted d (v ∷ vs) e zero l = one-none (test v) (howMany test vs) e
+  none-counted d (v ∷ vs) e (suc p) l = none-counted d vs (omega arith) p (omega arith)
 
 module _ (vs : List Verdict) where
   -- a window within the verdicts has k of them, the i-th and those after it

@@ -10,18 +10,18 @@ use lib.ListN.{List·getD-append, getD, getD-replicate, length, length-append, l
 use lib.Seq.{getD-append-seam, getD-set-other, getD-set-same, take-all, take-append-le, take-nil}
 use borrow.Author.Tests.{le-leb, leb-true, lt-leb, lt-ltb, ltb-true}
 use Rattle.bits.specs.Below.{least, some}
-use Rattle.bits.proofs.Below.{last-or-below, least-found, least-none, least-same}
-use Rattle.bits.proofs.Bools.{either, same-test}
+use Rattle.bits.proofs.Laws.Below.{last-or-below, least-found, least-none, least-same}
+use Rattle.bits.proofs.Laws.Bools.{either, same-test}
 use Rattle.tables.specs.Tables.{taskOf}
 use Rattle.zsrm.specs.declared.answers.Verdict.{Verdict}
 use Rattle.zsrm.specs.Verdict.{isOpen, missed}
 use Rattle.window.specs.declared.jobs.Gathered.{Gathered}
-use Rattle.window.specs.declared.windows.Windows.the-variants.{Fails, Passes}
-use Rattle.window.specs.Code.{GatheredAs, Rising, Room, firstOver, missesBetween, toldOf, withJob}
-use Rattle.window.specs.Windows.{fails, firstFailing, howMany, jobsBelow, judged, misses, opens, window, windowCount}
+use Rattle.window.specs.declared.answers.Windows.the-variants.{Fails, Passes}
+use Rattle.window.specs.Code.{GatheredAs, Rising, RoomForJob, firstOver, missesBetween, windowsFrom, withJob}
+use Rattle.window.specs.Windows.{fails, firstFailing, howMany, jobsBelow, windowsOf, misses, opens, window, windowCount}
 use Rattle.window.proofs.Laws.Counts.{many-most, many-one-more, misses-rise, misses-window}
 use Rattle.window.proofs.Laws.Jobs.{below-more}
-use Rattle.window.proofs.Laws.Windows.{counted}
+use Rattle.window.proofs.Laws.Windows.{window-counted}
 
 pub gathered-none : GatheredAs [] [] (record { count = 0; numbers = replicate 64 0; missed = replicate 65 0; opens = 0 })
 unfolding misses opens howMany
@@ -38,7 +38,7 @@ gathered-none =
     }
 
 module _ (own : List ℕ) (vs : List Verdict) (x : Gathered) (w : GatheredAs own vs x) where
-  pub gathered-room : length own < 64 → Room x
+  pub gathered-room : length own < 64 → RoomForJob x
   unfolding misses opens
   gathered-room room =
       record {
@@ -107,7 +107,8 @@ module _ (own : List ℕ) (vs : List Verdict) (x : Gathered) (w : GatheredAs own
         }
 
 -- a loop's next turn
-module _ (jobs : List ℕ) (task : ℕ) (verdict : ℕ → Verdict) (j : ℕ) (x : Gathered) (w : GatheredAs (jobsBelow jobs task j) (map verdict (jobsBelow jobs task j)) x) (room : length (jobsBelow jobs task j) < 64) where
+module _ (jobs : List ℕ) (task : ℕ) (verdict : ℕ → Verdict) (j : ℕ) (x : Gathered)
+    (w : GatheredAs (jobsBelow jobs task j) (map verdict (jobsBelow jobs task j)) x) (room : length (jobsBelow jobs task j) < 64) where
   pub gathered-next : (y : Gathered) → y ≡ cond (eqb (taskOf jobs j) task) (withJob x j (verdict j)) x
       → GatheredAs (jobsBelow jobs task (j + 1)) (map verdict (jobsBelow jobs task (j + 1))) y
   gathered-next y e =
@@ -132,12 +133,12 @@ module _ (x : Gathered) (m k : ℕ) where
       n : ℕ
       n = suc (x .count) - k
 
-  pub over-fails : (i c : ℕ) → i ≡ firstOver x m k → c ≡ missesBetween x k i → i + k ≤ x .count → Fails (getD (x .numbers) i 0) c (x .opens) ≡ toldOf x m k
-  unfolding toldOf
+  pub over-fails : (i c : ℕ) → i ≡ firstOver x m k → c ≡ missesBetween x k i → i + k ≤ x .count → Fails (getD (x .numbers) i 0) c (x .opens) ≡ windowsFrom x m k
+  unfolding windowsFrom
   over-fails i c e q l = rw (← e, le-leb (i + k) (x .count) l, q)
 
-  pub over-passes : (i : ℕ) → i ≡ firstOver x m k → x .count < i + k → Passes (x .opens) ≡ toldOf x m k
-  unfolding toldOf
+  pub over-passes : (i : ℕ) → i ≡ firstOver x m k → x .count < i + k → Passes (x .opens) ≡ windowsFrom x m k
+  unfolding windowsFrom
   over-passes i e l = rw (← e, lt-leb (i + k) (x .count) l)
 
 -- what the windows come to
@@ -155,12 +156,17 @@ module _ (own : List ℕ) (vs : List Verdict) (x : Gathered) (w : GatheredAs own
   unfolding firstOver firstFailing fails
   first =
       ap (λ (n : ℕ). least n (λ i. ltb m (missesBetween x k i)) n) windows
-      ∙ least-same (λ i. ltb m (missesBetween x k i)) (fails vs m k) (windowCount vs k) (windowCount vs k) (λ i l. ap (ltb m) (between i (counted vs k i .0 l)))
+      ∙ least-same (λ i. ltb m (missesBetween x k i)) (fails vs m k) (windowCount vs k) (windowCount vs k) (λ i l. ap (ltb m) (between i (window-counted vs k i .0 l)))
 
-  pub gathered-told : toldOf x m k ≡ judged own vs m k
-  unfolding toldOf judged
-  gathered-told =
-      rw (first, same-test (leb (i + k) (x .count)) (ltb i (windowCount vs k)) (λ h. lt-ltb i (windowCount vs k) (counted vs k i .1 (omega (arith, leb-true (i + k) (x .count) h, w .count, w .judged)))) (λ h. le-leb (i + k) (x .count) (omega (arith, counted vs k i .0 (ltb-true i (windowCount vs k) h), w .count, w .judged))))
+  pub gathered-windows : windowsFrom x m k ≡ windowsOf own vs m k
+  unfolding windowsFrom windowsOf
+  gathered-windows =
+      rw (
+        first,
+        same-test (leb (i + k) (x .count)) (ltb i (windowCount vs k))
+            (λ h. lt-ltb i (windowCount vs k) (window-counted vs k i .1 (omega (arith, leb-true (i + k) (x .count) h, w .count, w .judged))))
+            (λ h. le-leb (i + k) (x .count) (omega (arith, window-counted vs k i .0 (ltb-true i (windowCount vs k) h), w .count, w .judged))),
+      )
       (go (ltb i (windowCount vs k)) refl)
     where
       i : ℕ
@@ -169,7 +175,7 @@ module _ (own : List ℕ) (vs : List Verdict) (x : Gathered) (w : GatheredAs own
       go : (b : Bool) → ltb i (windowCount vs k) ≡ b
           → cond b (Fails (getD (x .numbers) i 0) (missesBetween x k i) (x .opens)) (Passes (x .opens)) ≡ cond b (Fails (getD own i 0) (misses (window vs k i)) (opens vs)) (Passes (opens vs))
       go true e =
-          let there = counted vs k i .0 (ltb-true i (windowCount vs k) e) in
+          let there = window-counted vs k i .0 (ltb-true i (windowCount vs k) e) in
           let number = w .numbers i (omega (arith, w .judged)) in
           let count = between i there in
           let open′ = w .opens in

@@ -12,8 +12,8 @@ use lib.ListN.{List·getD-append, getD, length, length-append}
 use lib.Seq.{getD-append-seam}
 use borrow.Author.Tests.{eq-eqb, eqb-true}
 use Rattle.bits.specs.Below.{count}
-use Rattle.bits.proofs.Below.{last-or-below}
-use Rattle.bits.proofs.Bools.{clash}
+use Rattle.bits.proofs.Laws.Below.{last-or-below}
+use Rattle.bits.proofs.Laws.Bools.{clash}
 use Rattle.tables.specs.Tables.{jobCount, taskOf}
 use Rattle.zsrm.specs.declared.answers.Verdict.{Verdict}
 use Rattle.window.specs.Windows.{activations, howMany, jobsBelow}
@@ -92,7 +92,8 @@ module _ (jobs : List ℕ) (task : ℕ) where
   below-each zero i = λ l. absurd (not-suc-le-zero l)
   below-each (suc n) i =
       below-cases (λ own. i < length own → Each own (suc n) i) n
-      (λ t l. ⊎-elim (λ q. rw (q .1) (omega arith, eqb-true (taskOf jobs n) task t)) (λ q. rw (q .1) (let w = below-each n i (q .0) in (omega (arith, w .0), w .1))) (snoc-at (jobsBelow jobs task n) n i l))
+      (λ t l. ⊎-elim (λ q. rw (q .1) (omega arith, eqb-true (taskOf jobs n) task t))
+      (λ q. rw (q .1) (let w = below-each n i (q .0) in (omega (arith, w .0), w .1))) (snoc-at (jobsBelow jobs task n) n i l))
       (λ t l. let w = below-each n i l in (omega (arith, w .0), w .1))
 
   -- they ascend
@@ -117,10 +118,6 @@ module _ (jobs : List ℕ) (task : ℕ) where
       (λ t. below-all n j (⊎-elim (λ q. clash (eq-eqb (taskOf jobs n) task (ap (taskOf jobs) (sym q) ∙ e)) t) (λ m. m) (last-or-below n j l)) e)
 
   -- all of the list
-  pub own-few : length (activations jobs task) ≤ jobCount jobs
-  unfolding activations
-  own-few = below-few (jobCount jobs)
-
   pub own-each : (i : ℕ) → i < length (activations jobs task) → (getD (activations jobs task) i 0 < jobCount jobs) × (taskOf jobs (getD (activations jobs task) i 0) ≡ task)
   unfolding activations
   own-each = below-each (jobCount jobs)

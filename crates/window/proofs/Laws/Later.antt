@@ -9,8 +9,8 @@ use mathlib.Core.Path.{ap, ap₂, refl, subst, sym, _∙_, _≡_}
 use native.Mathlib.Nat.{eq-or-lt-of-le}
 use native.Mathlib.Omega.{arith}
 use lib.ListN.{List·getD-map, getD, length, length-map, take}
-use Rattle.bits.proofs.Bools.{clash, either, fails}
-use Rattle.tables.specs.declared.outcome.Outcome.the-variants.{Done}
+use Rattle.bits.proofs.Laws.Bools.{clash, either, never-true}
+use Rattle.tables.specs.declared.answers.Outcome.the-variants.{Done}
 use Rattle.tables.specs.Refusals.{checkLists}
 use Rattle.tables.proofs.Laws.Accepted.{lists-few}
 use Rattle.zsrm.specs.declared.answers.Verdict.{Verdict}
@@ -20,15 +20,13 @@ use Rattle.zsrm.specs.Given.{Given}
 use Rattle.zsrm.specs.Record.{consistent}
 use Rattle.zsrm.specs.Run.{replay}
 use Rattle.zsrm.specs.Verdict.{isOpen, missed, verdict}
-use Rattle.zsrm.proofs.Laws.Answers.{verdict-answered}
-use Rattle.zsrm.proofs.Laws.Final.{Final, final-stays, is-open, missed-final}
-use Rattle.zsrm.proofs.Laws.Open.{open-last}
-use Rattle.window.specs.declared.windows.Windows.{Windows}
-use Rattle.window.specs.declared.windows.Windows.the-variants.{Fails, Passes}
-use Rattle.window.specs.Windows.{activations, judged, misses, opens, verdictsOn, window}
-use Rattle.window.proofs.Laws.Counts.{many-rise, misses-rise, misses-window, none-passes, window-none, window-rise}
+use Rattle.zsrm.proofs.Laws.Verdicts.{Final, final-stays, is-open, missed-final, open-last, verdict-answered}
+use Rattle.window.specs.declared.answers.Windows.{Windows}
+use Rattle.window.specs.declared.answers.Windows.the-variants.{Fails, Passes}
+use Rattle.window.specs.Windows.{activations, windowsOf, misses, opens, verdictsOn, window}
+use Rattle.window.proofs.Laws.Counts.{many-rise, misses-rise, misses-window, none-counted, window-none, window-rise}
 use Rattle.window.proofs.Laws.Jobs.{own-each, own-order}
-use Rattle.window.proofs.Laws.Windows.{FirstOver, Told, all-pass, fails-reads, judged-fails, judged-passes, one-fails, told}
+use Rattle.window.proofs.Laws.Windows.{FirstOver, WindowCases, all-pass, fails-reads, windows-fail, windows-pass, one-fails, window-cases}
 
 -- vs are the verdicts on a task's jobs, vs′ those on the same jobs later, place by place; d and d′ stand past their ends
 pub record Later (d d′ : Verdict) (vs vs′ : List Verdict) : Type 0 where
@@ -66,7 +64,7 @@ module _ (d d′ : Verdict) (vs vs′ : List Verdict) (later : Later d d′ vs v
       unmissed : (p : ℕ) → e + k ≤ p → p < e + k + (i - e) → missed (getD vs p d) ≡ false
       unmissed p a b =
           let open-there = ⊎-elim (λ q. subst (λ (n : ℕ). isOpen (getD vs n d) ≡ true) q h) (λ q. later .last (e + k) p q (omega arith) h) (eq-or-lt-of-le a) in
-          fails (missed (getD vs p d)) (λ w. clash open-there (missed-final (getD vs p d) w))
+          never-true (missed (getD vs p d)) (λ w. clash open-there (missed-final (getD vs p d) w))
 
   -- the first window that fails stays the first
   first-stays : (m k i : ℕ) → FirstOver vs m k i → FirstOver vs′ m k i
@@ -80,12 +78,12 @@ module _ (d d′ : Verdict) (vs vs′ : List Verdict) (later : Later d d′ vs v
       go : (e : ℕ) → e < i → (isOpen (getD vs (e + k) d) ≡ true) ⊎ (isOpen (getD vs (e + k) d) ≡ false) → misses (window vs′ k e) ≤ m
       go e l (inl o) = absurd (omega (arith, w .over, w .earlier e l, open-after k e i l (w .there) o))
       go e l (inr c) =
-          let closed : (p : ℕ) → p < e + k → isOpen (getD vs p d) ≡ false = λ p b. fails (isOpen (getD vs p d)) (λ o. clash (later .last p (e + k) b (omega (arith, w .there)) o) c) in
+          let closed : (p : ℕ) → p < e + k → isOpen (getD vs p d) ≡ false = λ p b. never-true (isOpen (getD vs p d)) (λ o. clash (later .last p (e + k) b (omega (arith, w .there)) o) c) in
           omega (arith, w .earlier e l, misses-final k e (omega (arith, w .there)) closed)
 
   -- so a failure stays one, with the same job
-  pub judged-stays : (own : List ℕ) (m k job number n : ℕ) → judged own vs m k ≡ Fails job number n
-      → (number′ : ℕ) × (n′ : ℕ) × (judged own vs′ m k ≡ Fails job number′ n′) × (number ≤ number′) × (n′ ≤ n)
+  pub judged-stays : (own : List ℕ) (m k job number n : ℕ) → windowsOf own vs m k ≡ Fails job number n
+      → (number′ : ℕ) × (n′ : ℕ) × (windowsOf own vs′ m k ≡ Fails job number′ n′) × (number ≤ number′) × (n′ ≤ n)
   judged-stays own m k job number n says =
       let w = fails-reads own vs m k job number n .0 says in
       let i = w .0 in
@@ -98,12 +96,12 @@ module _ (d d′ : Verdict) (vs vs′ : List Verdict) (later : Later d d′ vs v
       )
 
   -- with no open job the answer is final
-  pub judged-final : (own : List ℕ) (m k : ℕ) → opens vs ≡ 0 → judged own vs′ m k ≡ judged own vs m k
+  pub judged-final : (own : List ℕ) (m k : ℕ) → opens vs ≡ 0 → windowsOf own vs′ m k ≡ windowsOf own vs m k
   unfolding opens
-  judged-final own m k none = go (judged own vs m k) (told own vs m k)
+  judged-final own m k none = go (windowsOf own vs m k) (window-cases own vs m k)
     where
       closed : (p : ℕ) → p < length vs → isOpen (getD vs p d) ≡ false
-      closed = none-passes isOpen d vs none
+      closed = none-counted isOpen d vs none
 
       same-opens : opens vs′ ≡ opens vs
       same-opens = omega (arith, opens-fall)
@@ -111,11 +109,11 @@ module _ (d d′ : Verdict) (vs vs′ : List Verdict) (later : Later d d′ vs v
       same-misses : (i : ℕ) → i + k ≤ length vs → misses (window vs′ k i) ≡ misses (window vs k i)
       same-misses i l = omega (arith, misses-grow k i l, misses-final k i l (λ p b. closed p (omega arith)))
 
-      go : (x : Windows) → Told own vs m k x → judged own vs′ m k ≡ x
+      go : (x : Windows) → WindowCases own vs m k x → windowsOf own vs′ m k ≡ x
       go _ (all-pass h) =
-          judged-passes own vs′ m k (λ i l. let b : i + k ≤ length vs = omega (arith, later .same) in omega (arith, h i b, same-misses i b)) ∙ ap Passes same-opens
+          windows-pass own vs′ m k (λ i l. let b : i + k ≤ length vs = omega (arith, later .same) in omega (arith, h i b, same-misses i b)) ∙ ap Passes same-opens
       go _ (one-fails i w) =
-          judged-fails own vs′ m k i (first-stays m k i w) ∙ ap₂ (Fails (getD own i 0)) (same-misses i (w .there)) same-opens
+          windows-fail own vs′ m k i (first-stays m k i w) ∙ ap₂ (Fails (getD own i 0)) (same-misses i (w .there)) same-opens
 
 -- the verdicts on a task's jobs
 module _ (g : Given) (lists : checkLists (g .lists) ≡ Done) (task : ℕ) where

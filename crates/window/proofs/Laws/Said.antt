@@ -1,11 +1,9 @@
 -- Equal numbers are equal answers.
-use Prim.Native.Nat.{ℕ}
 use mathlib.Core.Path.{_≡_}
-use native.Mathlib.Omega.{arith}
-use Rattle.window.specs.declared.windows.Windows.{Windows}
-use Rattle.window.specs.declared.windows.Windows.the-variants.{Fails, Passes, Refused}
+use Rattle.bits.proofs.Laws.Bools.{apart}
+use Rattle.window.specs.declared.answers.Windows.{Windows}
+use Rattle.window.specs.declared.answers.Windows.the-variants.{Fails, Passes, Refused}
 use Rattle.window.specs.Said.{windowsSaid}
-use Rattle.zsrm.proofs.Readings.{apart}
 
 pub windows-said : (a b : Windows) → windowsSaid a ≡ windowsSaid b → a ≡ b
 unfolding windowsSaid

@@ -8,14 +8,15 @@ use native.Mathlib.Omega.{arith}
 use lib.Dec.{ltb}
 use lib.ListN.{getD, length}
 use borrow.Author.Tests.{le-ltb, lt-ltb, ltb-false, ltb-true}
-use Rattle.bits.proofs.Below.{least-found, least-none, none-passes, some-true}
+use Rattle.bits.proofs.Laws.Below.{least-found, least-none, none-passes, some-true}
 use Rattle.bits.proofs.Readings.{least-reads}
 use Rattle.zsrm.specs.declared.answers.Verdict.{Verdict}
-use Rattle.window.specs.declared.windows.Windows.{Windows}
-use Rattle.window.specs.declared.windows.Windows.the-variants.{Fails, Passes, Refused}
-use Rattle.window.specs.Windows.{fails, firstFailing, judged, misses, opens, window, windowCount}
+use Rattle.window.specs.declared.answers.Windows.{Windows}
+use Rattle.window.specs.declared.answers.Windows.the-variants.{Fails, Passes, Refused}
+use Rattle.window.specs.Windows.{fails, firstFailing, windowsOf, misses, opens, window, windowCount}
 use Rattle.window.proofs.Laws.Counts.{window-within}
-use Rattle.bits.proofs.Bools as bools
+use Rattle.bits.proofs.Laws.Bools as bools
+use Rattle.bits.proofs.Laws.Bools.{apart}
 
 -- every K consecutive of the verdicts contain at most m misses
 abbrev pub Holds : List Verdict → ℕ → ℕ → Type 0
@@ -40,14 +41,14 @@ holds-shorter vs m k n l enough h i b = go (ltb (length vs) (i + k)) refl
         omega (arith, h last (omega arith), window-within vs n i k last (omega arith) (omega arith))
 
 -- the windows are those that begin with k verdicts left
-pub counted : (vs : List Verdict) (k i : ℕ) → i < windowCount vs k ↔ i + k ≤ length vs
+pub window-counted : (vs : List Verdict) (k i : ℕ) → i < windowCount vs k ↔ i + k ≤ length vs
 unfolding windowCount
-counted vs k i = (λ l. omega arith, λ l. omega arith)
+window-counted vs k i = (λ l. omega arith, λ l. omega arith)
 
 module _ (vs : List Verdict) (m k : ℕ) where
-  pub over-reads : (i : ℕ) → fails vs m k i ≡ true ↔ m < misses (window vs k i)
+  pub over-exactly : (i : ℕ) → fails vs m k i ≡ true ↔ m < misses (window vs k i)
   unfolding fails
-  over-reads i = (ltb-true m (misses (window vs k i)), lt-ltb m (misses (window vs k i)))
+  over-exactly i = (ltb-true m (misses (window vs k i)), lt-ltb m (misses (window vs k i)))
 
   within-reads : (i : ℕ) → fails vs m k i ≡ false ↔ misses (window vs k i) ≤ m
   unfolding fails
@@ -57,75 +58,76 @@ module _ (vs : List Verdict) (m k : ℕ) where
   unfolding firstFailing
   none-fails l i b =
       within-reads i .0
-      (bools.fails (fails vs m k i) (λ p. omega (arith, least-found (fails vs m k) (windowCount vs k) (windowCount vs k) (some-true (fails vs m k) (windowCount vs k) i (counted vs k i .1 b) p) .0)))
+      (bools.never-true (fails vs m k i)
+      (λ p. omega (arith, least-found (fails vs m k) (windowCount vs k) (windowCount vs k) (some-true (fails vs m k) (windowCount vs k) i (window-counted vs k i .1 b) p) .0)))
 
   pub first-none : Holds vs m k → firstFailing vs m k ≡ windowCount vs k
   unfolding firstFailing
   first-none h =
-      least-none (fails vs m k) (windowCount vs k) (windowCount vs k) (none-passes (fails vs m k) (windowCount vs k) (λ i l. within-reads i .1 (h i (counted vs k i .0 l))))
+      least-none (fails vs m k) (windowCount vs k) (windowCount vs k) (none-passes (fails vs m k) (windowCount vs k) (λ i l. within-reads i .1 (h i (window-counted vs k i .0 l))))
 
   first-over : firstFailing vs m k < windowCount vs k → FirstOver vs m k (firstFailing vs m k)
   unfolding firstFailing
   first-over l =
       let w = least-reads (fails vs m k) (windowCount vs k) (windowCount vs k) (firstFailing vs m k) l (omega arith) .0 refl in
       record {
-        there = counted vs k (firstFailing vs m k) .0 l;
-        over = over-reads (firstFailing vs m k) .0 (w .0);
+        there = window-counted vs k (firstFailing vs m k) .0 l;
+        over = over-exactly (firstFailing vs m k) .0 (w .0);
         earlier = λ e b. within-reads e .0 (w .1 e b);
       }
 
   pub first-is : (i : ℕ) → FirstOver vs m k i → firstFailing vs m k ≡ i
   unfolding firstFailing
   first-is i w =
-      least-reads (fails vs m k) (windowCount vs k) (windowCount vs k) i (counted vs k i .1 (w .there)) (omega arith) .1
-      (over-reads i .1 (w .over), λ e b. within-reads e .1 (w .earlier e b))
+      least-reads (fails vs m k) (windowCount vs k) (windowCount vs k) i (window-counted vs k i .1 (w .there)) (omega arith) .1
+      (over-exactly i .1 (w .over), λ e b. within-reads e .1 (w .earlier e b))
 
 module _ (own : List ℕ) (vs : List Verdict) (m k : ℕ) where
   -- what a failing window is told as
-  abbrev pub named : ℕ → Windows
-  named i = Fails (getD own i 0) (misses (window vs k i)) (opens vs)
+  abbrev pub failsAt : ℕ → Windows
+  failsAt i = Fails (getD own i 0) (misses (window vs k i)) (opens vs)
 
-  pub judged-passes : Holds vs m k → judged own vs m k ≡ Passes (opens vs)
-  unfolding judged
-  judged-passes h = rw (le-ltb (firstFailing vs m k) (windowCount vs k) (omega (arith, first-none vs m k h)))
+  pub windows-pass : Holds vs m k → windowsOf own vs m k ≡ Passes (opens vs)
+  unfolding windowsOf
+  windows-pass h = rw (le-ltb (firstFailing vs m k) (windowCount vs k) (omega (arith, first-none vs m k h)))
 
-  pub judged-fails : (i : ℕ) → FirstOver vs m k i → judged own vs m k ≡ named i
-  unfolding judged
-  judged-fails i w =
-      rw (lt-ltb (firstFailing vs m k) (windowCount vs k) (omega (arith, first-is vs m k i w, counted vs k i .1 (w .there)))) (ap named (first-is vs m k i w))
+  pub windows-fail : (i : ℕ) → FirstOver vs m k i → windowsOf own vs m k ≡ failsAt i
+  unfolding windowsOf
+  windows-fail i w =
+      rw (lt-ltb (firstFailing vs m k) (windowCount vs k) (omega (arith, first-is vs m k i w, window-counted vs k i .1 (w .there)))) (ap failsAt (first-is vs m k i w))
 
   -- one or the other
-  pub data Told : Windows → Type 0 where
-    all-pass : Holds vs m k → Told (Passes (opens vs))
-    one-fails : (i : ℕ) → FirstOver vs m k i → Told (named i)
+  pub data WindowCases : Windows → Type 0 where
+    all-pass : Holds vs m k → WindowCases (Passes (opens vs))
+    one-fails : (i : ℕ) → FirstOver vs m k i → WindowCases (failsAt i)
 
-  pub told : Told (judged own vs m k)
-  unfolding judged
-  told = go (ltb (firstFailing vs m k) (windowCount vs k)) refl
+  pub window-cases : WindowCases (windowsOf own vs m k)
+  unfolding windowsOf
+  window-cases = go (ltb (firstFailing vs m k) (windowCount vs k)) refl
     where
-      go : (b : Bool) → ltb (firstFailing vs m k) (windowCount vs k) ≡ b → Told (cond b (named (firstFailing vs m k)) (Passes (opens vs)))
+      go : (b : Bool) → ltb (firstFailing vs m k) (windowCount vs k) ≡ b → WindowCases (cond b (failsAt (firstFailing vs m k)) (Passes (opens vs)))
       go true e = one-fails (firstFailing vs m k) (first-over vs m k (ltb-true (firstFailing vs m k) (windowCount vs k) e))
       go false e = all-pass (none-fails vs m k (ltb-false (firstFailing vs m k) (windowCount vs k) e))
 
-  pub passes-reads : (n : ℕ) → judged own vs m k ≡ Passes n ↔ Holds vs m k × (n ≡ opens vs)
-  passes-reads n = (λ e. go (judged own vs m k) told e, λ w. judged-passes (w .0) ∙ ap Passes (sym (w .1)))
+  pub passes-reads : (n : ℕ) → windowsOf own vs m k ≡ Passes n ↔ Holds vs m k × (n ≡ opens vs)
+  passes-reads n = (λ e. go (windowsOf own vs m k) window-cases e, λ w. windows-pass (w .0) ∙ ap Passes (sym (w .1)))
     where
-      go : (x : Windows) → Told x → x ≡ Passes n → Holds vs m k × (n ≡ opens vs)
+      go : (x : Windows) → WindowCases x → x ≡ Passes n → Holds vs m k × (n ≡ opens vs)
       go _ (all-pass h) e = (h, cc)
-      go _ (one-fails i w) e = let z : _≡_ {A = ℕ} 0 1 = cc in absurd (omega arith)
+      go _ (one-fails i w) e = apart (cc)
 
-  pub fails-reads : (j c n : ℕ) → judged own vs m k ≡ Fails j c n
+  pub fails-reads : (j c n : ℕ) → windowsOf own vs m k ≡ Fails j c n
       ↔ ((i : ℕ) × FirstOver vs m k i × (j ≡ getD own i 0) × (c ≡ misses (window vs k i)) × (n ≡ opens vs))
-  fails-reads j c n = (λ e. go (judged own vs m k) told e, λ w. judged-fails (w .0) (w .1) ∙ cc (w .2, w .3, w .4))
+  fails-reads j c n = (λ e. go (windowsOf own vs m k) window-cases e, λ w. windows-fail (w .0) (w .1) ∙ cc (w .2, w .3, w .4))
     where
-      go : (x : Windows) → Told x → x ≡ Fails j c n → (i : ℕ) × FirstOver vs m k i × (j ≡ getD own i 0) × (c ≡ misses (window vs k i)) × (n ≡ opens vs)
-      go _ (all-pass h) e = let z : _≡_ {A = ℕ} 0 1 = cc in absurd (omega arith)
+      go : (x : Windows) → WindowCases x → x ≡ Fails j c n → (i : ℕ) × FirstOver vs m k i × (j ≡ getD own i 0) × (c ≡ misses (window vs k i)) × (n ≡ opens vs)
+      go _ (all-pass h) e = apart (cc)
       go _ (one-fails i w) e = (i, w, cc, cc, cc)
 
   -- never a refusal
-  pub never-refused : (number place : ℕ) → judged own vs m k ≡ Refused number place → ⊥
-  never-refused number place = go (judged own vs m k) told
+  pub never-refused : (number place : ℕ) → windowsOf own vs m k ≡ Refused number place → ⊥
+  never-refused number place = go (windowsOf own vs m k) window-cases
     where
-      go : (x : Windows) → Told x → x ≡ Refused number place → ⊥
-      go _ (all-pass h) e = let z : _≡_ {A = ℕ} 0 1 = cc in omega arith
-      go _ (one-fails i w) e = let z : _≡_ {A = ℕ} 0 1 = cc in omega arith
+      go : (x : Windows) → WindowCases x → x ≡ Refused number place → ⊥
+      go _ (all-pass h) e = apart (cc)
+      go _ (one-fails i w) e = apart (cc)

@@ -15,8 +15,8 @@ gather-requires c κs =
     accepted-few g (a .rec) (a .task) (a .m) (a .k)
     (made-accepted g (a .rec) (a .task) (a .m) (a .k) _ (checked .before .verdicts .ensures) _ (checked .check-judge .ensures) (c .enum-told .given .1))
 
-told-requires : tie.Need-told-requires
-told-requires c κs =
+windows-from-requires : tie.Need-windows-from-requires
+windows-from-requires c κs =
     let checked = c .before .before .before in
     let a = checked .before .before .before .before .args in
     let g = given (a .mode) (a .tasks .now) (a .jobs .now) in
@@ -29,7 +29,7 @@ returns c =
     let a = checked .before .before .before .before .args in
     let g = given (a .mode) (a .tasks .now) (a .jobs .now) in
     made-answer g (a .rec) (a .task) (a .m) (a .k) _ (checked .before .verdicts .ensures) _ (checked .check-judge .ensures) (c .before .before .enum-told .given .1) _ (c .before .gather .ensures) _
-    (c .told .ensures)
+    (c .windows-from .ensures)
 
 returns-2 : tie.Need-returns-2
 returns-2 c =
@@ -40,4 +40,5 @@ returns-2 c =
 
 pub judge-spec : {M : Type 1} → statement M
 judge-spec =
-    tie.close (tie.spec (λ c κs. search needs) (λ c κs. search needs) (λ c. search needs) gather-requires told-requires (λ c. search needs) returns returns-2)
+    tie.close
+    (tie.spec (λ c κs. search needs) (λ c κs. search needs) (λ c. search needs) gather-requires windows-from-requires (λ c. search needs) returns returns-2)

@@ -1,77 +1,36 @@
 -- What an answer that is no refusal says of the checks, and what acceptance says of the lists.
 use Prim.Native.Nat.{_+_, _<_, ℕ, _≤_}
-use mathlib.Core.Bool.{Bool, true, cond}
+use mathlib.Core.Bool.{true, cond}
 use mathlib.Core.List.{List}
-use mathlib.Core.Logic.{inl, inr, _↔_, _⊎_}
+use mathlib.Core.Logic.{_↔_}
 use mathlib.Core.Path.{ap, ap₂, refl, sym, _∙_, _≡_}
 use native.Mathlib.Omega.{arith}
-use lib.Dec.{eqb, ltb}
+use lib.Dec.{eqb}
 use lib.ListN.{length}
-use borrow.Author.Tests.{eq-eqb, eqb-false, eqb-true, le-leb, lt-ltb, ltb-false, not-false}
-use Rattle.tables.specs.declared.outcome.Outcome.{Outcome}
-use Rattle.tables.specs.declared.outcome.Outcome.the-variants.{Done, Refused}
-use Rattle.zsrm.specs.declared.answers.Verdict.the-variants.{Met}
+use borrow.Author.Tests.{eq-eqb, eqb-false, eqb-true, not-false}
+use Rattle.tables.specs.declared.answers.Outcome.{Outcome}
+use Rattle.tables.specs.declared.answers.Outcome.the-variants.{Done, Refused}
 use Rattle.zsrm.specs.declared.record.Record.{Record}
 use Rattle.zsrm.specs.declared.tie.Tie.{Tie}
-use Rattle.zsrm.specs.declared.record.Standing.the-variants.{Finished}
-use Rattle.zsrm.specs.Answers.{checkSchedule, checkStep, checkVerdict, claimAnswer, ran, runAnswer, runSchedule, verdictAnswer}
-use Rattle.tables.specs.Refusals.{unless, before, check10, check13, check2, check3, check4, check5, check6, check7, check8, check9, checkJobs, checkLists, checkTasks, refuse}
+use Rattle.zsrm.specs.Answers.{checkStep, claimAnswer, ran, runAnswer, runSchedule}
+use Rattle.tables.specs.Refusals.{unless, checkLists, checkSchedule}
 use Rattle.zsrm.specs.Said.{claimSaid}
 use Rattle.zsrm.specs.Legal.{claim, isLegal, legalFrom, legalLength}
-use Rattle.zsrm.specs.Record.{consistent, fresh, standingAt, check11, check12}
+use Rattle.zsrm.specs.Record.{consistent, fresh, check11, check12}
 use Rattle.zsrm.specs.Run.{runEntries, runRecord, entriesBy, finalBy}
 use Rattle.zsrm.specs.Given.{Given}
-use Rattle.tables.specs.Tables.{deadlineInstant, jobCount, Lists, idle, taskCount}
-use Rattle.zsrm.specs.Verdict.{verdict}
+use Rattle.tables.specs.Tables.{idle}
 use Rattle.zsrm.proofs.Laws.Consistent.{consistent-tick, fresh-consistent}
 use Rattle.zsrm.proofs.Laws.Places.{tick-fresh}
-use Rattle.tables.proofs.Laws.Refusals.{Numbered, before-last, before-first, before-second, numbered-ascending, numbered-before, numbered-refuse, refuse-fine, unless-done, unless-refused}
+use Rattle.tables.proofs.Laws.Refusals.{before-first, before-second, refuse-fine, unless-done, unless-refused}
 use Rattle.zsrm.proofs.Laws.Run.{length-run, our-run-legal}
 use Rattle.zsrm.proofs.Laws.Said.{claim-said}
 use Rattle.zsrm.proofs.Laws.Replay.{AllLegal}
-use Rattle.bits.proofs.Bools.{by-cond}
+use Rattle.bits.proofs.Laws.Bools.{by-cond, apart}
 use Rattle.zsrm.specs.Tick.{choice}
-use Rattle.tables.proofs.Laws.Accepted.{lists-few}
+use Rattle.tables.proofs.Laws.Accepted.{Accepted, accepted}
 use Rattle.zsrm.specs.Said as say
 use Rattle.zsrm.specs.declared.answers.Claim.the-variants as claims
-
--- what an accepted schedule says of its input
-pub record Accepted (l : Lists) (horizon entries : ℕ) : Type 0 where
-  pub lists : checkLists l ≡ Done
-  pub bounded : horizon ≤ 16384
-  pub whole : entries ≡ horizon
-
-pub accepted : (l : Lists) (horizon entries : ℕ) → checkSchedule l horizon entries ≡ Done → Accepted l horizon entries
-unfolding checkSchedule check9 check10
-accepted l h n ok =
-    let rest = before-second (checkLists l) _ ok in
-    let nine = refuse-fine _ _ _ (before-first (check9 h) _ rest) in
-    let ten = refuse-fine _ _ _ (before-second (check9 h) _ rest) in
-    record { lists = before-first (checkLists l) _ ok; bounded = ltb-false 16384 h nine; whole = eqb-true n h (not-false (eqb n h) ten) }
-
--- the lists are refused with 2 to 8
-module _ (P : ℕ → Type 0) (among : (number : ℕ) → 2 ≤ number → number ≤ 8 → P number) where
-  one-numbered : (b : Bool) (number place : ℕ) → 2 ≤ number → number ≤ 8 → Numbered P (refuse b number place)
-  one-numbered b number place least most = numbered-refuse P b number place (among number least most)
-
-  tasks-numbered : (tasks : List ℕ) → Numbered P (checkTasks tasks)
-  unfolding checkTasks check2 check3 check4
-  tasks-numbered tasks =
-      numbered-before P (check2 tasks) _ (one-numbered _ 2 0 (omega arith) (omega arith))
-      (numbered-ascending P _ (taskCount tasks) (λ k.
-      numbered-before P (check3 tasks k) (check4 tasks k) (one-numbered _ 3 k (omega arith) (omega arith)) (one-numbered _ 4 k (omega arith) (omega arith))))
-
-  jobs-numbered : (tasks jobs : List ℕ) → Numbered P (checkJobs tasks jobs)
-  unfolding checkJobs check5 check6 check7 check8
-  jobs-numbered tasks jobs =
-      numbered-before P (check5 jobs) _ (one-numbered _ 5 0 (omega arith) (omega arith))
-      (numbered-ascending P _ (jobCount jobs) (λ j.
-      numbered-before P (check6 tasks jobs j) _ (one-numbered _ 6 j (omega arith) (omega arith))
-      (numbered-before P (check7 jobs j) (check8 tasks jobs j) (one-numbered _ 7 j (omega arith) (omega arith)) (one-numbered _ 8 j (omega arith) (omega arith)))))
-
-  pub lists-numbered : (l : Lists) → Numbered P (checkLists l)
-  unfolding checkLists
-  lists-numbered l = numbered-before P (checkTasks (l .tasks)) _ (tasks-numbered (l .tasks)) (jobs-numbered (l .tasks) (l .jobs))
 
 -- a whole schedule is legal exactly when each of its entries is
 pub whole-legal : (g : Given) (schedule : List ℕ) → claim g schedule ≡ claims.Legal ↔ AllLegal g (fresh (g .lists .jobs)) idle schedule
@@ -83,7 +42,7 @@ whole-legal g schedule = (there, λ c. rw (eq-eqb (legalFrom g (fresh (g .lists 
     there =
         by-cond (λ c. c ≡ claims.Legal → AllLegal g (fresh (g .lists .jobs)) idle schedule) (eqb (legalFrom g (fresh (g .lists .jobs)) idle schedule) (length schedule))
         claims.Legal (claims.NotLegal (legalFrom g (fresh (g .lists .jobs)) idle schedule))
-        (λ q _. eqb-true _ _ q) (λ q e. let z : _≡_ {A = ℕ} 0 1 = cc in absurd (omega arith))
+        (λ q _. eqb-true _ _ q) (λ q e. apart (cc))
 
 -- a claim that is answered legal was accepted, and is legal
 pub record LegalClaim (g : Given) (horizon : ℕ) (schedule : List ℕ) : Type 0 where
@@ -98,28 +57,7 @@ is-legal g horizon schedule e =
   where
     go : (o : Outcome) → checkSchedule (g .lists) horizon (length schedule) ≡ o → unless o claims.Refused (claim g schedule) ≡ claims.Legal → LegalClaim g horizon schedule
     go Done q c = record { checked = q; input = accepted (g .lists) horizon (length schedule) q; legal = whole-legal g schedule .0 c }
-    go (Refused n p) q c = let z : _≡_ {A = ℕ} 0 1 = cc in absurd (omega arith)
-
--- the verdict on a job of the list, from a consistent record, is no refusal
-pub verdict-answered : (g : Given) → checkLists (g .lists) ≡ Done → (r : Record) → consistent g r ≡ true → (j : ℕ) → j < jobCount (g .lists .jobs) → verdictAnswer g r j ≡ verdict (g .lists) r j
-unfolding verdictAnswer checkVerdict check11 check13 refuse before unless
-verdict-answered g lists r sound j l = rw (lists, sound, lt-ltb j (jobCount (g .lists .jobs)) l)
-
--- a job that is finished by its deadline is judged met
-pub met-answer : (g : Given) → checkLists (g .lists) ≡ Done → (r : Record) → consistent g r ≡ true → (j : ℕ) → j < jobCount (g .lists .jobs)
-    → (f : ℕ) → standingAt r j ≡ Finished f → f ≤ deadlineInstant (g .lists) j → verdictAnswer g r j ≡ Met
-unfolding verdict
-met-answer g lists r sound j l f q b = verdict-answered g lists r sound j l ∙ rw (q, le-leb f (deadlineInstant (g .lists) j) b)
-
--- where the lent list is as long as the horizon, or the horizon is refused, the lists and the horizon decide
-length-fits : (horizon entries : ℕ) → (entries ≡ horizon) ⊎ (16384 < horizon) → before (check9 horizon) (check10 entries horizon) ≡ check9 horizon
-unfolding check9 check10 refuse before
-length-fits horizon entries (inl e) = rw (eq-eqb entries horizon e) (before-last (refuse (ltb 16384 horizon) 9 0))
-length-fits horizon entries (inr l) = rw (lt-ltb 16384 horizon l)
-
-pub schedule-checked : (l : Lists) (horizon entries : ℕ) → (entries ≡ horizon) ⊎ (16384 < horizon) → checkSchedule l horizon entries ≡ before (checkLists l) (check9 horizon)
-unfolding checkSchedule
-schedule-checked l horizon entries fits = ap (before (checkLists l)) (length-fits horizon entries fits)
+    go (Refused n p) q c = apart (cc)
 
 pub run-outcome : (g : Given) (tie : Tie) (horizon : ℕ) (lent : List ℕ) → runAnswer g tie horizon lent .outcome ≡ checkSchedule (g .lists) horizon (length lent)
 unfolding runAnswer ran
@@ -141,7 +79,7 @@ run-claim g tie horizon lent ok =
     let same : length lent ≡ length es = a .whole ∙ sym (length-run g tie horizon) in
     rw (run-given g tie horizon lent ok .1)
     (unless-done claims.Refused (claim g es) (checkSchedule (g .lists) horizon (length es)) (rw same at ok)
-    ∙ whole-legal g es .1 (our-run-legal g (lists-few (g .lists) (a .lists)) tie horizon (a .bounded)))
+    ∙ whole-legal g es .1 (our-run-legal g (a .lists) tie horizon (a .bounded)))
 
 -- what a step that is not refused says of its record
 pub record Steps (g : Given) (r : Record) : Type 0 where
@@ -160,7 +98,8 @@ steps g r ok =
 
 -- the run's answer and list, where nothing is refused and where something is
 module _ (g : Given) (tie : Tie) (horizon : ℕ) (lent : List ℕ) where
-  pub run-done : checkSchedule (g .lists) horizon (length lent) ≡ Done → (made : Record) → made ≡ finalBy g (choice g tie) (fresh (g .lists .jobs)) (length lent) → ran Done made ≡ runAnswer g tie horizon lent
+  pub run-done : checkSchedule (g .lists) horizon (length lent) ≡ Done → (made : Record)
+      → made ≡ finalBy g (choice g tie) (fresh (g .lists .jobs)) (length lent) → ran Done made ≡ runAnswer g tie horizon lent
   unfolding runAnswer runRecord
   run-done ok made e =
       ap₂ ran (sym ok) (e ∙ ap (finalBy g (choice g tie) (fresh (g .lists .jobs))) (accepted (g .lists) horizon (length lent) ok .whole))

@@ -12,23 +12,22 @@ use lib.Dec.{ltb}
 use lib.ListN.{length}
 use borrow.Author.Tests.{lt-ltb, le-ltb}
 use Rattle.bits.specs.Below.{least, some}
-use Rattle.bits.proofs.Below.{least-found, least-none}
-use Rattle.bits.proofs.Bools.{either}
+use Rattle.bits.proofs.Laws.Below.{least-found, least-none}
+use Rattle.bits.proofs.Laws.Bools.{either, apart}
 use Rattle.zsrm.specs.declared.record.Record.{Record}
 use Rattle.zsrm.specs.declared.record.Standing.{Standing}
 use Rattle.zsrm.specs.declared.record.Standing.the-variants.{Ended, Finished, NotArrived, Unfinished}
 use Rattle.zsrm.specs.Given.{Given}
-use Rattle.zsrm.specs.Legal.{candidateOrIdle}
 use Rattle.zsrm.specs.Record.{consistent, doneAt, fresh, standingAt}
 use Rattle.zsrm.specs.Run.{recordBefore, replayed}
-use Rattle.zsrm.specs.Tick.{advanced, ends, over, someJob, standingAfter}
+use Rattle.zsrm.specs.Tick.{advanced, candidateOrIdle, ends, over, someJob, standingAfter}
 use Rattle.zsrm.specs.Verdict.{breaks, isOutside, outsider}
 use Rattle.tables.specs.Tables.{execution, idle, jobCount, jobNominal, Lists}
 use Rattle.zsrm.proofs.Laws.Consistent.{Sound, advanced-consistent, fresh-consistent, sound-at}
 use Rattle.zsrm.proofs.Laws.Places.{opening-unended, standing-advanced, standing-fresh, tick-fresh}
 use Rattle.zsrm.proofs.Laws.Replay.{AllLegal, kept-at, legal-may, replayed-is}
-use Rattle.zsrm.proofs.Laws.Tick.{done-most, goes-on, past-exactly}
-use Rattle.zsrm.proofs.Readings.{Breaks, FirstOutside, SomeJob, alive-reads, apart, ends-reads, outside-reads, over-reads, within-reads}
+use Rattle.zsrm.proofs.Laws.Tick.{done-most, goes-on-cases, past-exactly}
+use Rattle.zsrm.proofs.Readings.{Breaks, FirstOutside, SomeJob, alive-reads, ends-reads, outside-reads, over-reads, within-reads}
 
 -- a downward loop at n keeps n - 1 where that passes, and goes past it where it fails
 least-next : (f : ℕ → Bool) (n d : ℕ) (b : Bool) → 0 < n → f (n - 1) ≡ b → least n f d ≡ least (n - 1) f (cond b (n - 1) d)
@@ -102,7 +101,7 @@ module _ (g : Given) (few : jobCount (g .lists .jobs) ≤ 64) where
       go : (j x : ℕ) → j < 64 → (s : Standing) → standingAt r j ≡ s → standingAfter g r e j s ≡ Ended x → SomeJob g (Breaks g j)
       go j x l NotArrived p q = absurd (opening-unended (g .lists .jobs) (suc (r .tick)) j x q)
       go j x l Unfinished p q =
-          goes-on g r e (λ s. s ≡ Ended x → SomeJob g (Breaks g j)) j (λ y z a. apart (cc)) (λ y z a. ends-broken r (h .sound) e j z) (λ y z a. apart (cc)) q
+          goes-on-cases g r e (λ s. s ≡ Ended x → SomeJob g (Breaks g j)) j (λ y z a. apart (cc)) (λ y z a. ends-broken r (h .sound) e j z) (λ y z a. apart (cc)) q
       go j x l (Finished f) p q = apart (cc)
       go j x l (Ended y) p q = h .broken j y l p
 

@@ -8,52 +8,49 @@ use native.Mathlib.Omega.{arith}
 use lib.Dec.{eqb, ltb}
 use lib.ListN.{length, take}
 use borrow.Author.Tests.{eq-eqb, eqb-true, le-ltb, ltb-false, ltb-true}
-use Rattle.bits.proofs.Bools.{either}
-use Rattle.tables.specs.declared.outcome.Outcome.{Outcome}
-use Rattle.tables.specs.declared.outcome.Outcome.the-variants.{Done, Refused}
-use Rattle.tables.specs.Refusals.{before, check10, check9, checkJobs, checkLists, checkTasks, refuse, unless}
+use Rattle.bits.proofs.Laws.Bools.{either}
+use Rattle.tables.specs.Bytes.{bytesOf, numbersIn}
+use Rattle.tables.specs.declared.answers.Outcome.{Outcome}
+use Rattle.tables.specs.declared.answers.Outcome.the-variants.{Done, Refused}
+use Rattle.tables.specs.Refusals.{before, check10, check9, checkJobs, checkLists, checkTasks, refuse, unless, checkSchedule}
 use Rattle.tables.specs.Tables.{lists}
-use Rattle.tables.proofs.Laws.Accepted.{lists-few}
-use Rattle.tables.proofs.Laws.Refusals.{fine, unless-done}
+use Rattle.tables.proofs.Laws.Bytes.{length-numbers}
+use Rattle.tables.proofs.Laws.Accepted.{accepted}
+use Rattle.tables.proofs.Laws.Refusals.{fine, unless-done, before-assoc}
 use Rattle.tables.proofs.Laws.Small.{Small, jobs-long, small, small-jobs, small-tasks, tasks-long}
 use Rattle.zsrm.specs.declared.answers.Claim.{Claim}
 use Rattle.zsrm.specs.declared.tie.Tie.the-variants.{Stay}
 use Rattle.zsrm.specs.declared.c.Called.{Called}
 use Rattle.zsrm.specs.declared.mode.Mode.{Mode}
-use Rattle.zsrm.specs.Answers.{checkSchedule, runAnswer, runSchedule, claimAnswer}
-use Rattle.zsrm.specs.Bytes.{bytes2, check1, checkBytes, claimResult, givenBytes, modeOf, numbers2, numbers4, packedClaim, packedOutcome, runBytes, runResult, uneven}
+use Rattle.zsrm.specs.Answers.{claimAnswer}
+use Rattle.zsrm.specs.Bytes.{check1, checkBytes, claimResult, givenBytes, modeOf, packedClaim, packedOutcome, runBytes, runResult, uneven}
 use Rattle.zsrm.specs.Code.Called.{called, checkCount, checkNumbers, decoded}
 use Rattle.zsrm.specs.Given.{Given, given}
 use Rattle.zsrm.specs.Legal.{claim}
 use Rattle.zsrm.specs.Run.{runEntries}
-use Rattle.zsrm.proofs.Laws.Answers.{accepted, run-given, run-outcome, whole-legal}
-use Rattle.zsrm.proofs.Laws.Bytes.{decoded-front, entries-back, length-bytes2, length-decoded, length-numbers2, length-numbers4}
-use Rattle.zsrm.proofs.Laws.Run.{length-run, our-run-legal}
-use Rattle.zsrm.proofs.Laws.Verdicts.{before-assoc}
+use Rattle.zsrm.proofs.Laws.Bytes.{decoded-front, length-decoded}
 use Rattle.zsrm.proofs.Readings.{claim-not-refused}
 use Rattle.zsrm.proofs.Laws.Said.{claim-said}
 use Rattle.zsrm.specs.Said.{claimSaid}
-use Rattle.tables.specs.Said.{outcomeSaid}
+use Rattle.tables.specs.Said.{done, outcomeSaid}
 use Rattle.tables.proofs.Laws.Said.{outcome-said}
 use Rattle.zsrm.specs.declared.answers.Claim.the-variants as claims
-use Rattle.tables.specs.Said as outcome
-use Rattle.zsrm.specs.Said as say
 
 -- a list whose bytes the code counts first is refused as the list is that they spell
-listed : (bytes l : List ℕ) (number : ℕ) (check : List ℕ → Outcome) → (length bytes ≤ 768 → l ≡ numbers4 bytes) → ((l : List ℕ) → 192 < length l → check l ≡ Refused number 0)
-    → before (checkCount (length bytes) number) (check l) ≡ before (uneven (length bytes) 4 number) (check (numbers4 bytes))
+listed : (bytes l : List ℕ) (number : ℕ) (check : List ℕ → Outcome) → (length bytes ≤ 768 → l ≡ numbersIn 4 bytes) → ((l : List ℕ) → 192 < length l → check l ≡ Refused number 0)
+    → before (checkCount (length bytes) number) (check l) ≡ before (uneven (length bytes) 4 number) (check (numbersIn 4 bytes))
 unfolding uneven refuse before
 listed bytes l number check fits long = go (either (eqb (length bytes % 4) 0)) (either (ltb 768 (length bytes)))
   where
     go : (eqb (length bytes % 4) 0 ≡ true) ⊎ (eqb (length bytes % 4) 0 ≡ false) → (ltb 768 (length bytes) ≡ true) ⊎ (ltb 768 (length bytes) ≡ false)
-        → before (checkCount (length bytes) number) (check l) ≡ before (uneven (length bytes) 4 number) (check (numbers4 bytes))
+        → before (checkCount (length bytes) number) (check l) ≡ before (uneven (length bytes) 4 number) (check (numbersIn 4 bytes))
     go (inr e) _ = rw e
-    go (inl e) (inl m) = rw (e, m) (sym (long (numbers4 bytes) (omega (arith, eqb-true (length bytes % 4) 0 e, ltb-true 768 (length bytes) m, length-numbers4 bytes))))
+    go (inl e) (inl m) = rw (e, m) (sym (long (numbersIn 4 bytes) (omega (arith, eqb-true (length bytes % 4) 0 e, ltb-true 768 (length bytes) m, length-numbers 4 bytes))))
     go (inl e) (inr m) = rw (e, m) (ap check (fits (ltb-false 768 (length bytes) m)))
 
 module _ (mode : ℕ) (tasks jobs : List ℕ) (horizon count : ℕ) where
   -- the code's checks are those of the bytes
-  numbers-checked : (ts js : List ℕ) → (length tasks ≤ 768 → ts ≡ numbers4 tasks) → (length jobs ≤ 768 → js ≡ numbers4 jobs)
+  numbers-checked : (ts js : List ℕ) → (length tasks ≤ 768 → ts ≡ numbersIn 4 tasks) → (length jobs ≤ 768 → js ≡ numbersIn 4 jobs)
       → checkNumbers mode (length tasks) ts (length jobs) js horizon count ≡ checkBytes mode tasks jobs horizon count
   unfolding checkNumbers checkBytes
   numbers-checked ts js pt pj =
@@ -61,17 +58,18 @@ module _ (mode : ℕ) (tasks jobs : List ℕ) (horizon count : ℕ) where
       let rest = before (check9 horizon) (before (uneven count 2 10) (check10 (count / 2) horizon)) in
       ap (before (check1 mode))
       (ap (λ (o : Outcome). before o (before (before (checkCount (length jobs) 5) (checkJobs ts js)) rest)) two
-      ∙ same (before (uneven (length tasks) 4 2) (checkTasks (numbers4 tasks))) (λ ok.
+      ∙ same (before (uneven (length tasks) 4 2) (checkTasks (numbersIn 4 tasks))) (λ ok.
       let ok' = two ∙ ok in
       ap (λ (o : Outcome). before o rest) (listed jobs js 5 (checkJobs ts) pj (jobs-long ts)
-      ∙ ap (λ (l : List ℕ). before (uneven (length jobs) 4 5) (checkJobs l (numbers4 jobs))) (pt (search fine)))))
+      ∙ ap (λ (l : List ℕ). before (uneven (length jobs) 4 5) (checkJobs l (numbersIn 4 jobs))) (pt (search fine)))))
     where
       same : (a : Outcome) {b c : Outcome} → (a ≡ Done → b ≡ c) → before a b ≡ before a c
       same Done h = unfold before in h refl
       same (Refused n p) h = unfold before in refl
 
   -- and so is what they and the decoded numbers make
-  pub called-made : (ts js : List ℕ) (n m : ℕ) (o : Outcome) (s : Mode) → ts ≡ decoded tasks → js ≡ decoded jobs → (length tasks ≤ 768 → n ≡ length tasks / 4) → (length jobs ≤ 768 → m ≡ length jobs / 4)
+  pub called-made : (ts js : List ℕ) (n m : ℕ) (o : Outcome) (s : Mode) → ts ≡ decoded tasks
+      → js ≡ decoded jobs → (length tasks ≤ 768 → n ≡ length tasks / 4) → (length jobs ≤ 768 → m ≡ length jobs / 4)
       → o ≡ checkNumbers mode (length tasks) (take n ts) (length jobs) (take m js) horizon count → s ≡ modeOf mode
       → _≡_ {A = Called} (record { outcome = o; mode = s; tasks = ts; jobs = js }) (called mode tasks jobs horizon count)
   unfolding called
@@ -89,20 +87,20 @@ module _ (mode : ℕ) (tasks jobs : List ℕ) (horizon count : ℕ) where
     pub short : count ≤ 32768
     pub schedule : checkSchedule (givenBytes mode tasks jobs .lists) horizon (count / 2) ≡ Done
 
-  pub passed : (r : Called) → r ≡ called mode tasks jobs horizon count → r .outcome ≡ Done → Passed r
+  pub call-passed : (r : Called) → r ≡ called mode tasks jobs horizon count → r .outcome ≡ Done → Passed r
   unfolding called givenBytes checkNumbers uneven checkSchedule checkLists
-  passed r q e =
+  call-passed r q e =
       let checked : checkBytes mode tasks jobs horizon count ≡ Done = rw q at e in
-      let ok = numbers-checked (numbers4 tasks) (numbers4 jobs) (λ _. refl) (λ _. refl) ∙ checked in
+      let ok = numbers-checked (numbersIn 4 tasks) (numbersIn 4 jobs) (λ _. refl) (λ _. refl) ∙ checked in
       let few : length tasks ≤ 768 = search fine depth 9 in
       let some : length jobs ≤ 768 = search fine depth 9 in
-      let two : checkTasks (numbers4 tasks) ≡ Done = search fine depth 9 in
-      let five : checkJobs (numbers4 tasks) (numbers4 jobs) ≡ Done = search fine depth 9 in
+      let two : checkTasks (numbersIn 4 tasks) ≡ Done = search fine depth 9 in
+      let five : checkJobs (numbersIn 4 tasks) (numbersIn 4 jobs) ≡ Done = search fine depth 9 in
       let nine : check9 horizon ≡ Done = search fine depth 9 in
       let ten : check10 (count / 2) horizon ≡ Done = search fine depth 9 in
       let even = eqb-true (count % 2) 0 (search fine depth 9) in
-      let whole : checkSchedule (lists (numbers4 tasks) (numbers4 jobs)) horizon (count / 2) ≡ Done = rw (two, five, nine, ten) (unfold before in refl) in
-      let a = accepted (lists (numbers4 tasks) (numbers4 jobs)) horizon (count / 2) whole in
+      let whole : checkSchedule (lists (numbersIn 4 tasks) (numbersIn 4 jobs)) horizon (count / 2) ≡ Done = rw (two, five, nine, ten) (unfold before in refl) in
+      let a = accepted (lists (numbersIn 4 tasks) (numbersIn 4 jobs)) horizon (count / 2) whole in
       record {
         checked = checked;
         tasks-fit = rw q (omega (arith, length-decoded tasks));
@@ -119,12 +117,12 @@ module _ (mode : ℕ) (tasks jobs : List ℕ) (horizon count : ℕ) where
   refusals-small = search (small, small-tasks, small-jobs) depth 12
 
   -- of a mode 0 or 1 and of whole byte counts the checks of the bytes are those of the lists that they spell
-  bytes-checked : mode ≤ 1 → length tasks % 4 ≡ 0 → length jobs % 4 ≡ 0 → count % 2 ≡ 0
+  pub bytes-checked : mode ≤ 1 → length tasks % 4 ≡ 0 → length jobs % 4 ≡ 0 → count % 2 ≡ 0
       → checkBytes mode tasks jobs horizon count ≡ checkSchedule (givenBytes mode tasks jobs .lists) horizon (count / 2)
   unfolding checkBytes check1 uneven givenBytes checkSchedule checkLists refuse before
   bytes-checked known whole-tasks whole-jobs whole-entries =
       rw (le-ltb 1 mode known, eq-eqb (length tasks % 4) 0 whole-tasks, eq-eqb (length jobs % 4) 0 whole-jobs, eq-eqb (count % 2) 0 whole-entries)
-      (sym (before-assoc (checkTasks (numbers4 tasks)) (checkJobs (numbers4 tasks) (numbers4 jobs)) (before (check9 horizon) (check10 (count / 2) horizon))))
+      (sym (before-assoc (checkTasks (numbersIn 4 tasks)) (checkJobs (numbersIn 4 tasks) (numbersIn 4 jobs)) (before (check9 horizon) (check10 (count / 2) horizon))))
 
 -- packed answers that are no refusals are told apart
 unpacked : (c d : Claim) → ((number place : ℕ) → c ≡ claims.Refused number place → ⊥) → ((number place : ℕ) → d ≡ claims.Refused number place → ⊥) → packedClaim c ≡ packedClaim d → c ≡ d
@@ -140,127 +138,66 @@ unpacked (claims.NotLegal t) (claims.NotLegal u) a b e = ap claims.NotLegal (ome
 -- the calls' results, where the checks pass and where they refuse
 module _ (mode : ℕ) (tasks jobs : List ℕ) (horizon : ℕ) (schedule : List ℕ) where
   module _ (r : Called) (w : Passed mode tasks jobs horizon (length schedule) r) where
-    pub c-runs : (after : List ℕ) → after ≡ bytes2 (runEntries (given (r .mode) (take (length tasks / 4) (r .tasks)) (take (length jobs / 4) (r .jobs))) Stay (length schedule / 2))
+    pub c-runs : (after : List ℕ) → after ≡ bytesOf 2 (runEntries (given (r .mode) (take (length tasks / 4) (r .tasks)) (take (length jobs / 4) (r .jobs))) Stay (length schedule / 2))
         → (0 ≡ runResult mode tasks jobs horizon schedule) × (after ≡ runBytes mode tasks jobs horizon schedule)
     unfolding runResult runBytes packedOutcome
     c-runs after q = (
       rw (w .checked),
-      q ∙ ap₂ (λ (g : Given) (n : ℕ). bytes2 (runEntries g Stay n)) (w .says) (accepted _ _ _ (w .schedule) .whole) ∙ sym (unless-done _ _ _ (w .checked)),
+      q ∙ ap₂ (λ (g : Given) (n : ℕ). bytesOf 2 (runEntries g Stay n)) (w .says) (accepted _ _ _ (w .schedule) .whole) ∙ sym (unless-done _ _ _ (w .checked)),
     )
 
-    pub c-claims : (x : ℕ) → x ≡ packedClaim (claim (given (r .mode) (take (length tasks / 4) (r .tasks)) (take (length jobs / 4) (r .jobs))) (numbers2 schedule))
+    pub c-claims : (x : ℕ) → x ≡ packedClaim (claim (given (r .mode) (take (length tasks / 4) (r .tasks)) (take (length jobs / 4) (r .jobs))) (numbersIn 2 schedule))
         → x ≡ claimResult mode tasks jobs horizon schedule
     unfolding claimResult
-    c-claims x q = q ∙ ap packedClaim (ap (λ (g : Given). claim g (numbers2 schedule)) (w .says) ∙ sym (unless-done _ _ _ (w .checked)))
+    c-claims x q = q ∙ ap packedClaim (ap (λ (g : Given). claim g (numbersIn 2 schedule)) (w .says) ∙ sym (unless-done _ _ _ (w .checked)))
 
-  pub record Stopped (number place : ℕ) : Type 0 where
+  pub record RefusedCall (number place : ℕ) : Type 0 where
     pub small : (1 ≤ number) × (number ≤ 13) × (place ≤ 64)
     pub run : number + 256 * place ≡ runResult mode tasks jobs horizon schedule
     pub kept : schedule ≡ runBytes mode tasks jobs horizon schedule
     pub claimed : number + 256 * place ≡ claimResult mode tasks jobs horizon schedule
 
-  pub stopped : (r : Called) (number place : ℕ) → r ≡ called mode tasks jobs horizon (length schedule) → r .outcome ≡ Refused number place → Stopped number place
+  pub stopped : (r : Called) (number place : ℕ) → r ≡ called mode tasks jobs horizon (length schedule) → r .outcome ≡ Refused number place → RefusedCall number place
   unfolding called runResult runBytes claimResult packedOutcome packedClaim unless
   stopped r number place q e =
       let found : checkBytes mode tasks jobs horizon (length schedule) ≡ Refused number place = rw q at e in
       record { small = subst Small found (refusals-small mode tasks jobs horizon (length schedule)); run = rw found; kept = rw found; claimed = rw found }
 
-  decided : Passed mode tasks jobs horizon (length schedule) (called mode tasks jobs horizon (length schedule)) ⊎ ((number : ℕ) × (place : ℕ) × Stopped number place)
+  pub decided : Passed mode tasks jobs horizon (length schedule) (called mode tasks jobs horizon (length schedule)) ⊎ ((number : ℕ) × (place : ℕ) × RefusedCall number place)
   unfolding called
   decided = go (checkBytes mode tasks jobs horizon (length schedule)) refl
     where
-      go : (o : Outcome) → checkBytes mode tasks jobs horizon (length schedule) ≡ o → Passed mode tasks jobs horizon (length schedule) (called mode tasks jobs horizon (length schedule)) ⊎ ((number : ℕ) × (place : ℕ) × Stopped number place)
-      go Done e = inl (passed mode tasks jobs horizon (length schedule) _ refl e)
+      go : (o : Outcome) → checkBytes mode tasks jobs horizon (length schedule) ≡ o
+          → Passed mode tasks jobs horizon (length schedule) (called mode tasks jobs horizon (length schedule)) ⊎ ((number : ℕ) × (place : ℕ) × RefusedCall number place)
+      go Done e = inl (call-passed mode tasks jobs horizon (length schedule) _ refl e)
       go (Refused number place) e = inr (number, place, stopped _ number place refl e)
 
   -- a run's result of 0 is "done" of the lists that the bytes spell, and the bytes are then the entries of our run
-  run-passed : runResult mode tasks jobs horizon schedule ≡ 0 → Passed mode tasks jobs horizon (length schedule) (called mode tasks jobs horizon (length schedule))
+  pub run-passed : runResult mode tasks jobs horizon schedule ≡ 0 → Passed mode tasks jobs horizon (length schedule) (called mode tasks jobs horizon (length schedule))
   run-passed e = ⊎-elim (λ w. w) (λ s. absurd (omega (arith, s .2 .small, s .2 .run))) decided
-
-  pub c-run-zero : runResult mode tasks jobs horizon schedule ≡ 0
-      → (checkSchedule (givenBytes mode tasks jobs .lists) horizon (length (numbers2 schedule)) ≡ Done)
-      × (runBytes mode tasks jobs horizon schedule ≡ bytes2 (runSchedule (givenBytes mode tasks jobs) Stay horizon (numbers2 schedule)))
-  unfolding runBytes
-  c-run-zero e =
-      let w = run-passed e in
-      let fine : checkSchedule (givenBytes mode tasks jobs .lists) horizon (length (numbers2 schedule)) ≡ Done = rw length-numbers2 (w .schedule) in
-      (fine, unless-done _ _ _ (w .checked) ∙ ap bytes2 (sym (run-given (givenBytes mode tasks jobs) Stay horizon (numbers2 schedule) fine .1)))
-
-  -- where a run is refused its bytes stay
-  pub c-run-kept : (runResult mode tasks jobs horizon schedule ≡ 0 → ⊥) → runBytes mode tasks jobs horizon schedule ≡ schedule
-  unfolding runResult packedOutcome
-  c-run-kept h = ⊎-elim (λ w. absurd (h (rw (w .checked)))) (λ s. sym (s .2 .kept)) decided
-
-  -- what a run writes is a legal claim of the same lists
-  pub c-run-claim : runResult mode tasks jobs horizon schedule ≡ 0 → claimResult mode tasks jobs horizon (runBytes mode tasks jobs horizon schedule) ≡ 0
-  unfolding runBytes claimResult packedClaim
-  c-run-claim e =
-      let w = run-passed e in
-      let g = givenBytes mode tasks jobs in
-      let es = runEntries g Stay horizon in
-      let a = accepted (g .lists) horizon (length schedule / 2) (w .schedule) in
-      let count : length (bytes2 es) ≡ length schedule = omega (arith, length-bytes2 es, length-run g Stay horizon, w .even, a .whole) in
-      rw (
-        unless-done (λ number place. schedule) (bytes2 es) _ (w .checked),
-        count,
-        unless-done claims.Refused (claim g (numbers2 (bytes2 es))) _ (w .checked),
-        entries-back es,
-        whole-legal g es .1 (our-run-legal g (lists-few (g .lists) (a .lists)) Stay horizon (a .bounded)),
-      )
-
-  -- the results exactly: refused, done, legal, not legal
-  pub c-refused-both : (number place : ℕ) → outcomeSaid (checkBytes mode tasks jobs horizon (length schedule)) ≡ outcome.refused number place
-      → (runResult mode tasks jobs horizon schedule ≡ number + 256 * place) × (claimResult mode tasks jobs horizon schedule ≡ number + 256 * place)
-  unfolding outcomeSaid called
-  c-refused-both number place e =
-      let s = stopped (called mode tasks jobs horizon (length schedule)) number place refl (outcome-said (checkBytes mode tasks jobs horizon (length schedule)) (Refused number place) e) in
-      (sym (s .run), sym (s .claimed))
-
-  pub c-run-exactly : runResult mode tasks jobs horizon schedule ≡ 0 ↔ outcomeSaid (checkBytes mode tasks jobs horizon (length schedule)) ≡ outcome.done
-  unfolding outcomeSaid runResult packedOutcome
-  c-run-exactly = (λ e. ap outcomeSaid (run-passed e .checked), λ e. ap packedOutcome (outcome-said (checkBytes mode tasks jobs horizon (length schedule)) Done e))
 
   -- where nothing is refused, the result is the packed answer to the claim of the lists that the bytes spell
   claim-packed : Passed mode tasks jobs horizon (length schedule) (called mode tasks jobs horizon (length schedule))
-      → (claimResult mode tasks jobs horizon schedule ≡ packedClaim (claim (givenBytes mode tasks jobs) (numbers2 schedule)))
-      × (claimAnswer (givenBytes mode tasks jobs) horizon (numbers2 schedule) ≡ claim (givenBytes mode tasks jobs) (numbers2 schedule))
+      → (claimResult mode tasks jobs horizon schedule ≡ packedClaim (claim (givenBytes mode tasks jobs) (numbersIn 2 schedule)))
+      × (claimAnswer (givenBytes mode tasks jobs) horizon (numbersIn 2 schedule) ≡ claim (givenBytes mode tasks jobs) (numbersIn 2 schedule))
   unfolding claimResult claimAnswer
-  claim-packed w = (ap packedClaim (unless-done _ _ _ (w .checked)), unless-done _ _ _ (rw length-numbers2 (w .schedule)))
+  claim-packed w = (ap packedClaim (unless-done _ _ _ (w .checked)), unless-done _ _ _ (rw (length-numbers 2) (w .schedule)))
 
-  c-claim-exactly : (c : Claim) → ((number place : ℕ) → c ≡ claims.Refused number place → ⊥) → ((number place : ℕ) → (1 ≤ number) × (number ≤ 13) × (place ≤ 64) → number + 256 * place ≡ packedClaim c → ⊥)
+  pub c-claim-exactly : (c : Claim) → ((number place : ℕ) → c ≡ claims.Refused number place → ⊥)
+      → ((number place : ℕ) → (1 ≤ number) × (number ≤ 13) × (place ≤ 64) → number + 256 * place ≡ packedClaim c → ⊥)
       → claimResult mode tasks jobs horizon schedule ≡ packedClaim c
-      ↔ (outcomeSaid (checkBytes mode tasks jobs horizon (length schedule)) ≡ outcome.done) × (claimSaid (claimAnswer (givenBytes mode tasks jobs) horizon (numbers2 schedule)) ≡ claimSaid c)
-  unfolding outcomeSaid
+      ↔ (outcomeSaid (checkBytes mode tasks jobs horizon (length schedule)) ≡ done) × (claimSaid (claimAnswer (givenBytes mode tasks jobs) horizon (numbersIn 2 schedule)) ≡ claimSaid c)
+  unfolding outcomeSaid runResult packedOutcome
   c-claim-exactly c plain far = (
     λ e. ⊎-elim (λ w. let p = claim-packed w in
-        (ap outcomeSaid (w .checked), ap claimSaid (p .1 ∙ unpacked _ c (claim-not-refused _ (numbers2 schedule)) plain (sym (p .0) ∙ e))))
+        (ap outcomeSaid (w .checked), ap claimSaid (p .1 ∙ unpacked _ c (claim-not-refused _ (numbersIn 2 schedule)) plain (sym (p .0) ∙ e))))
         (λ s. absurd (far (s .0) (s .1) (s .2 .small) (s .2 .claimed ∙ e))) decided,
     λ w. ⊎-elim (λ x. let p = claim-packed x in p .0 ∙ ap packedClaim (sym (p .1) ∙ claim-said _ c (w .1)))
         (λ s. clashes (s .0) (s .1) (s .2) (w .0)) decided,
   )
     where
-      clashes : (number place : ℕ) → Stopped number place → outcomeSaid (checkBytes mode tasks jobs horizon (length schedule)) ≡ outcome.done → claimResult mode tasks jobs horizon schedule ≡ packedClaim c
-      clashes number place s e = absurd (omega (arith, s .small, s .run, c-run-exactly .1 e))
-
-  pub c-legal-exactly : claimResult mode tasks jobs horizon schedule ≡ 0
-      ↔ (outcomeSaid (checkBytes mode tasks jobs horizon (length schedule)) ≡ outcome.done) × (claimSaid (claimAnswer (givenBytes mode tasks jobs) horizon (numbers2 schedule)) ≡ say.legal)
-  unfolding packedClaim claimSaid
-  c-legal-exactly = c-claim-exactly claims.Legal (λ n p e. let z : _≡_ {A = ℕ} 0 1 = cc in omega arith) (λ n p s e. omega (arith, s))
-
-  pub c-not-legal-exactly : (t : ℕ) → claimResult mode tasks jobs horizon schedule ≡ 65536 + t
-      ↔ (outcomeSaid (checkBytes mode tasks jobs horizon (length schedule)) ≡ outcome.done) × (claimSaid (claimAnswer (givenBytes mode tasks jobs) horizon (numbers2 schedule)) ≡ say.notLegal t)
-  unfolding packedClaim claimSaid
-  c-not-legal-exactly t = c-claim-exactly (claims.NotLegal t) (λ n p e. let z : _≡_ {A = ℕ} 0 1 = cc in omega arith) (λ n p s e. omega (arith, s))
-
-  -- of a mode 0 or 1 and of whole byte counts the results are the answers on the lists that the bytes spell, packed, refusals too
-  module _ (known : mode ≤ 1) (whole-tasks : length tasks % 4 ≡ 0) (whole-jobs : length jobs % 4 ≡ 0) (whole-entries : length schedule % 2 ≡ 0) where
-    same-checks : checkBytes mode tasks jobs horizon (length schedule) ≡ checkSchedule (givenBytes mode tasks jobs .lists) horizon (length (numbers2 schedule))
-    same-checks = rw length-numbers2 (bytes-checked mode tasks jobs horizon (length schedule) known whole-tasks whole-jobs whole-entries)
-
-    pub c-run-is-run : runResult mode tasks jobs horizon schedule ≡ packedOutcome (runAnswer (givenBytes mode tasks jobs) Stay horizon (numbers2 schedule) .outcome)
-    unfolding runResult
-    c-run-is-run = ap packedOutcome (same-checks ∙ sym (run-outcome (givenBytes mode tasks jobs) Stay horizon (numbers2 schedule)))
-
-    pub c-claim-is-claim : claimResult mode tasks jobs horizon schedule ≡ packedClaim (claimAnswer (givenBytes mode tasks jobs) horizon (numbers2 schedule))
-    unfolding claimResult claimAnswer
-    c-claim-is-claim = ap (λ (o : Outcome). packedClaim (unless o claims.Refused (claim (givenBytes mode tasks jobs) (numbers2 schedule)))) same-checks
+      clashes : (number place : ℕ) → RefusedCall number place → outcomeSaid (checkBytes mode tasks jobs horizon (length schedule)) ≡ done
+          → claimResult mode tasks jobs horizon schedule ≡ packedClaim c
+      clashes number place s e =
+          let z : runResult mode tasks jobs horizon schedule ≡ 0 = ap packedOutcome (outcome-said (checkBytes mode tasks jobs horizon (length schedule)) Done e) in
+          absurd (omega (arith, s .small, s .run))

@@ -9,33 +9,37 @@ use native.Mathlib.Omega.{arith}
 use lib.Dec.{eqb, ltb}
 use lib.ListN.{drop, drop-of-length-le, getD, length}
 use lib.Seq.{drop-cons}
-use borrow.Author.Tests.{eq-eqb, eqb-true, ltb-true, not-true}
+use borrow.Author.Tests.{eq-eqb, eqb-true, ltb-true, ne-eqb, not-true}
 use Rattle.bits.specs.Below.{bit, greatest, some, word}
-use Rattle.bits.proofs.Below.{some-found}
-use Rattle.bits.proofs.Bools.{and-left, and-true, clash, either, fails, not-of, or-left-false, or-right, or-right-false, same-test}
-use Rattle.bits.proofs.Word.{bit-above, bit-word, word-none}
-use Rattle.tables.specs.declared.outcome.Outcome.the-variants.{Done}
+use Rattle.bits.proofs.Laws.Below.{some-found}
+use Rattle.bits.proofs.Laws.Bools.{and-left, and-true, clash, either, never-true, not-of, or-left-false, or-right, or-right-false, same-test}
+use Rattle.bits.proofs.Laws.Word.{bit-above, bit-word, word-none}
+use Rattle.tables.specs.declared.answers.Outcome.the-variants.{Done, Refused}
+use Rattle.zsrm.specs.declared.answers.Claim.{Claim}
 use Rattle.zsrm.specs.declared.answers.Claim.the-variants.{Legal, NotLegal}
-use Rattle.zsrm.specs.declared.claims.Replayed.{Replayed}
+use Rattle.zsrm.specs.declared.answers.Replayed.{Replayed}
+use Rattle.zsrm.specs.declared.claims.Walked.{Walked}
 use Rattle.zsrm.specs.declared.record.Record.{Record}
 use Rattle.zsrm.specs.declared.tick.View.{View}
+use Rattle.zsrm.specs.Answers.{claimAnswer, ifLegal, replayAnswer}
 use Rattle.zsrm.specs.Given.{isSE, Given}
-use Rattle.zsrm.specs.Code.Claims.{ReplayedAs, topOrIdle, instantAt}
+use Rattle.zsrm.specs.Code.Claims.{WalkedAs, topOrIdle, instantAt}
 use Rattle.tables.specs.Tables.{idle, jobCount, jobPriority, Lists}
-use Rattle.zsrm.specs.Legal.{candidateOrIdle, legalEntry, schedulingInstant, instantBy, legalFrom, legalLength, claim, isLegal}
-use Rattle.zsrm.specs.Record.{consistent, doneAt, fresh, placeAt, standingAt}
-use Rattle.tables.specs.Refusals.{checkLists}
+use Rattle.zsrm.specs.Legal.{legalEntry, schedulingInstant, instantBy, legalFrom, legalLength, claim, isLegal}
+use Rattle.zsrm.specs.Record.{blank, consistent, doneAt, fresh, placeAt, standingAt}
+use Rattle.tables.specs.Refusals.{checkLists, checkSchedule}
 use Rattle.zsrm.specs.Run.{recordAt, recordBefore, replay, replayed}
-use Rattle.zsrm.specs.Tick.{advanced, candidate, eligible, readyAt, readyWord, someJob}
+use Rattle.zsrm.specs.Tick.{advanced, candidate, candidateOrIdle, eligible, readyAt, readyWord, someJob}
 use Rattle.zsrm.specs.Code.View.{hasPriority, view}
 use Rattle.zsrm.proofs.Laws.Consistent.{advanced-consistent, fresh-consistent}
-use Rattle.zsrm.proofs.Laws.Places.{tick-advanced, tick-fresh}
+use Rattle.zsrm.proofs.Laws.Places.{previous-advanced, previous-fresh, tick-advanced, tick-fresh}
 use Rattle.zsrm.proofs.Laws.Ready.{ready-of}
 use Rattle.zsrm.proofs.Laws.Tick.{candidate-eligible, some-candidate}
 use Rattle.zsrm.proofs.Laws.View.{candidate-view, seen}
-use Rattle.zsrm.proofs.Laws.Replay.{legal-goes-on, legal-may, legal-stops, replayed-is}
-use Rattle.zsrm.proofs.Laws.Run.{record-more}
+use Rattle.zsrm.proofs.Laws.Replay.{legal-goes-on, legal-may, legal-stops, replayed-is, record-more}
 use Rattle.tables.proofs.Laws.Accepted.{bounded, lists-few}
+use Rattle.tables.proofs.Laws.Refusals.{unless-done, unless-refused}
+use Rattle.zsrm.specs.declared.answers.Claim.the-variants as claims
 
 -- the reasons for a scheduling instant, place by place
 abbrev pub instantIn : Lists → Bool → ℕ → Record → ℕ → Bool
@@ -59,13 +63,13 @@ module _ (g : Given) (r : Record) (few : jobCount (g .lists .jobs) ≤ 64) (fit 
       there : not (some n (candidate g r)) ≡ true → eqb (word 64 (readyAt g r)) 0 ≡ true
       there h =
           eq-eqb (word 64 (readyAt g r)) 0
-          (word-none (readyAt g r) 64 (λ p _. fails (readyAt g r p) (λ s.
+          (word-none (readyAt g r) 64 (λ p _. never-true (readyAt g r p) (λ s.
           let w = some-found (λ j. eligible g r j && eqb (jobPriority (g .lists) j) p) n s in
           clash (some-candidate g r (w .0) (w .1) (and-left (eligible g r (w .0)) _ (w .2))) (not-true (some n (candidate g r)) h))))
 
       back : eqb (word 64 (readyAt g r)) 0 ≡ true → not (some n (candidate g r)) ≡ true
       back h =
-          not-of (fails (some n (candidate g r)) (λ s.
+          not-of (never-true (some n (candidate g r)) (λ s.
           let w = some-found (candidate g r) n s in
           let e = candidate-eligible g r (w .0) (w .2) in
           let z = eqb-true (word 64 (readyAt g r)) 0 h in
@@ -113,55 +117,85 @@ module _ (g : Given) (r : Record) (last e : ℕ) where
   unfolding legalEntry
   legal-never d = rw d
 
--- a replay that has come to tick t, all entries before it being legal
-pub record Replaying (g : Given) (schedule : List ℕ) (r : Record) (last t : ℕ) : Type 0 where
-  pub legal : legalLength g schedule ≡ t + legalFrom g r last (drop t schedule)
+-- a replay that has come to tick t, all entries before it being legal; the entry before it is the one that the record keeps
+pub record Replaying (g : Given) (schedule : List ℕ) (r : Record) (t : ℕ) : Type 0 where
+  pub legal : legalLength g schedule ≡ t + legalFrom g r (r .previous) (drop t schedule)
   pub here : r ≡ recordBefore g schedule t
   pub sound : consistent g r ≡ true
   pub time : r .tick ≡ t
 
 module _ (g : Given) (schedule : List ℕ) where
-  pub replaying-none : (r : Record) → r ≡ fresh (g .lists .jobs) → Replaying g schedule r idle 0
+  pub replaying-none : (r : Record) → r ≡ fresh (g .lists .jobs) → Replaying g schedule r 0
   unfolding legalLength recordBefore recordAt replay
-  replaying-none r q = record { legal = rw q (omega arith); here = q; sound = rw q (fresh-consistent g); time = rw q (tick-fresh (g .lists .jobs)) }
+  replaying-none r q =
+      record { legal = rw (q, previous-fresh (g .lists .jobs)) (omega arith); here = q; sound = rw q (fresh-consistent g); time = rw q (tick-fresh (g .lists .jobs)) }
 
   -- the entry at t, and those behind it
   at : (t e : ℕ) → t < length schedule → e ≡ getD schedule t 0 → drop t schedule ≡ e ∷ drop (suc t) schedule
   at t e b q = drop-cons schedule t 0 b ∙ ap (λ (x : ℕ). x ∷ drop (suc t) schedule) (sym q)
 
-  pub replaying-more : (r next : Record) (last t e : ℕ) → Replaying g schedule r last t → t < length schedule → length schedule ≤ 16384 → e ≡ getD schedule t 0
-      → legalEntry g r last e ≡ true → next ≡ advanced g r e → Replaying g schedule next e (t + 1)
-  replaying-more r next last t e w b limit q h n =
-      let goes : legalFrom g r last (drop t schedule) ≡ suc (legalFrom g (advanced g r e) e (drop (suc t) schedule)) =
-      ap (legalFrom g r last) (at t e b q) ∙ legal-goes-on g r last e (drop (suc t) schedule) h in
+  pub replaying-more : (r next : Record) (t e : ℕ) → Replaying g schedule r t → t < length schedule → length schedule ≤ 16384 → e ≡ getD schedule t 0
+      → legalEntry g r (r .previous) e ≡ true → next ≡ advanced g r e → Replaying g schedule next (t + 1)
+  replaying-more r next t e w b limit q h n =
+      let goes : legalFrom g r (r .previous) (drop t schedule) ≡ suc (legalFrom g (advanced g r e) e (drop (suc t) schedule)) =
+      ap (legalFrom g r (r .previous)) (at t e b q) ∙ legal-goes-on g r (r .previous) e (drop (suc t) schedule) h in
+      let rest : legalFrom g next (next .previous) (drop (suc t) schedule) ≡ legalFrom g (advanced g r e) e (drop (suc t) schedule) =
+      ap (λ (x : Record). legalFrom g x (x .previous) (drop (suc t) schedule)) n
+      ∙ ap (λ (p : ℕ). legalFrom g (advanced g r e) p (drop (suc t) schedule)) (previous-advanced g r e) in
       record {
-        legal = rw (add-one, n) (omega (arith, w .legal, goes));
+        legal = rw add-one (omega (arith, w .legal, goes, rest));
         here = rw add-one (n ∙ ap₂ (advanced g) (w .here) q ∙ sym (record-more g schedule t 0 b));
-        sound = rw n (advanced-consistent g r e (omega (arith, w .time)) (legal-may g r last e h) (w .sound));
+        sound = rw n (advanced-consistent g r e (omega (arith, w .time)) (legal-may g r (r .previous) e h) (w .sound));
         time = rw (add-one, n) (tick-advanced g r e ∙ ap suc (w .time));
       }
 
   -- it stops at an entry that is not legal, or at the end
-  pub replaying-stops : (r : Record) (last t e : ℕ) → Replaying g schedule r last t → t < length schedule → e ≡ getD schedule t 0 → legalEntry g r last e ≡ false
-      → ReplayedAs g schedule (record { ticks = t; «record» = r })
-  replaying-stops r last t e w b q h =
-      let none : legalFrom g r last (drop t schedule) ≡ 0 = ap (legalFrom g r last) (at t e b q) ∙ legal-stops g r last e (drop (suc t) schedule) h in
+  pub replaying-stops : (r : Record) (t e : ℕ) → Replaying g schedule r t → t < length schedule → e ≡ getD schedule t 0 → legalEntry g r (r .previous) e ≡ false
+      → WalkedAs g schedule (record { ticks = t; «record» = r })
+  replaying-stops r t e w b q h =
+      let none : legalFrom g r (r .previous) (drop t schedule) ≡ 0 =
+      ap (legalFrom g r (r .previous)) (at t e b q) ∙ legal-stops g r (r .previous) e (drop (suc t) schedule) h in
       let all : t ≡ legalLength g schedule = omega (arith, w .legal, none) in
       record { ticks = all; here = w .here ∙ ap (recordBefore g schedule) all }
 
-  pub replaying-ends : (r : Record) (last t : ℕ) → Replaying g schedule r last t → length schedule ≤ t → ReplayedAs g schedule (record { ticks = t; «record» = r })
+  pub replaying-ends : (r : Record) (t : ℕ) → Replaying g schedule r t → length schedule ≤ t → WalkedAs g schedule (record { ticks = t; «record» = r })
   unfolding legalFrom
-  replaying-ends r last t w b =
+  replaying-ends r t w b =
       let none : drop t schedule ≡ [] = drop-of-length-le schedule b in
-      let all : t ≡ legalLength g schedule = omega (arith, w .legal, ap (legalFrom g r last) none) in
+      let all : t ≡ legalLength g schedule = omega (arith, w .legal, ap (legalFrom g r (r .previous)) none) in
       record { ticks = all; here = w .here ∙ ap (recordBefore g schedule) all }
 
 -- where all entries are legal, the record is the one at the end
-pub replayed-whole : (g : Given) (schedule : List ℕ) (x : Replayed) → ReplayedAs g schedule x → legalLength g schedule ≡ length schedule → x .«record» ≡ replayed g schedule
+pub replayed-whole : (g : Given) (schedule : List ℕ) (x : Walked) → WalkedAs g schedule x → legalLength g schedule ≡ length schedule → x .«record» ≡ replayed g schedule
 replayed-whole g schedule x p all = p .here ∙ replayed-is g schedule (legalLength g schedule) (sym all)
 
 -- what a replay's count answers to a claim
-pub claim-answer : (g : Given) (schedule : List ℕ) (x : Replayed) → ReplayedAs g schedule x
+pub claim-answer : (g : Given) (schedule : List ℕ) (x : Walked) → WalkedAs g schedule x
     → cond (eqb (x .ticks) (length schedule)) Legal (NotLegal (x .ticks)) ≡ claim g schedule
 unfolding claim isLegal
 claim-answer g schedule x p = ap (λ (n : ℕ). cond (eqb n (length schedule)) Legal (NotLegal n)) (p .ticks)
+
+-- what the code answers to a schedule that is to be replayed: the claim and the record that goes with it
+module _ (g : Given) (horizon : ℕ) (schedule : List ℕ) where
+  replay-made : (c : Claim) (r : Record) → c ≡ claimAnswer g horizon schedule → r ≡ ifLegal c (replayed g schedule)
+      → _≡_ {A = Replayed} (record { claim = c; «record» = r }) (replayAnswer g horizon schedule)
+  unfolding replayAnswer
+  replay-made c r p q =
+      ap₂ (λ (x : Claim) (y : Record). let z : Replayed = record { claim = x; «record» = y } in z) p (q ∙ ap (λ (x : Claim). ifLegal x (replayed g schedule)) p)
+
+  module _ (x : Walked) (w : WalkedAs g schedule x) (ok : checkSchedule (g .lists) horizon (length schedule) ≡ Done) where
+    found : cond (eqb (x .ticks) (length schedule)) Legal (NotLegal (x .ticks)) ≡ claimAnswer g horizon schedule
+    unfolding claimAnswer
+    found = claim-answer g schedule x w ∙ sym (unless-done _ _ _ ok)
+
+    pub replay-legal : x .ticks ≡ length schedule → _≡_ {A = Replayed} (record { claim = Legal; «record» = x .«record» }) (replayAnswer g horizon schedule)
+    replay-legal all = replay-made Legal (x .«record») (rw (eq-eqb _ _ all) at found) (replayed-whole g schedule x w (sym (w .ticks) ∙ all))
+
+    pub replay-illegal : (r : Record) → (x .ticks ≡ length schedule → ⊥) → r ≡ blank
+        → _≡_ {A = Replayed} (record { claim = NotLegal (x .ticks); «record» = r }) (replayAnswer g horizon schedule)
+    replay-illegal r some q = replay-made (NotLegal (x .ticks)) r (rw (ne-eqb _ _ some) at found) q
+
+  pub replay-refused : (number place : ℕ) (r : Record) → checkSchedule (g .lists) horizon (length schedule) ≡ Refused number place → r ≡ blank
+      → _≡_ {A = Replayed} (record { claim = claims.Refused number place; «record» = r }) (replayAnswer g horizon schedule)
+  unfolding claimAnswer
+  replay-refused number place r e q = replay-made (claims.Refused number place) r (sym (unless-refused _ _ _ _ _ e)) q

@@ -1,24 +1,28 @@
--- What consistency says, place by place: the one statement of it. The fresh record is consistent, and a legal entry keeps a record so.
+-- What consistency says, place by place: the one statement of it. The fresh record is consistent, and a legal entry keeps a record so; so
+-- every record of a legal schedule is.
 use Prim.Native.Nat.{_+_, _<_, suc, ℕ, _≤_}
 use mathlib.Core.Bool.{false, true}
 use mathlib.Core.List.{List}
-use mathlib.Core.Path.{ap, refl, sym, _∙_, _≡_}
+use mathlib.Core.Path.{ap, refl, subst, sym, _∙_, _≡_}
 use mathlib.Core.Logic.{Iff·trans, inl, inr, _↔_, _≢_, _⊎_, ⊎-elim}
 use native.Mathlib.Decide.{ℕ-discrete}
 use native.Mathlib.Omega.{arith}
-use Rattle.bits.proofs.Bools.{clash, passed, passes, and-true, not-of}
+use lib.ListN.{length}
+use Rattle.bits.proofs.Laws.Bools.{clash, passed, passes, and-true, not-of, apart}
 use Rattle.zsrm.specs.declared.record.Place.{Place}
 use Rattle.zsrm.specs.declared.record.Record.{Record}
 use Rattle.zsrm.specs.declared.record.Standing.{Standing}
 use Rattle.zsrm.specs.declared.record.Standing.the-variants.{Ended, Finished, NotArrived, Unfinished}
-use Rattle.zsrm.specs.Legal.{candidateOrIdle}
 use Rattle.zsrm.specs.Record.{accounted, arrived, consistent, doneAt, fresh, freshPlace, opening, placeAt, soundAt, soundPlace, soundPrevious, spent, standingAt, suspendedAt, waitedAt}
+use Rattle.zsrm.specs.Run.{recordBefore, replayed}
 use Rattle.zsrm.specs.Given.{isSE, Given}
 use Rattle.tables.specs.Tables.{arrival, execution, idle, jobCount}
-use Rattle.zsrm.specs.Tick.{advanced, alive, doneAfter, finishes, placeAfter, standingAfter, unfinished}
-use Rattle.zsrm.proofs.Laws.Places.{done-advanced, done-fresh, place-advanced, place-fresh, previous-advanced, previous-fresh, standing-advanced, standing-fresh, tick-advanced, tick-fresh, away-reads, opens}
+use Rattle.zsrm.specs.Tick.{advanced, alive, candidateOrIdle, doneAfter, finishes, placeAfter, standingAfter, isUnfinished}
+use Rattle.zsrm.proofs.Laws.Places.{done-advanced, done-fresh, place-advanced, place-fresh, previous-advanced, previous-fresh}
+use Rattle.zsrm.proofs.Laws.Places.{standing-advanced, standing-fresh, tick-advanced, tick-fresh, away-reads, opening-cases}
 use Rattle.bits.proofs.Readings.{and-reads, eq-reads, every-reads, le-reads, lt-reads, or-reads}
-use Rattle.zsrm.proofs.Laws.Tick.{done-dead, done-idle, done-most, ends-by, goes-on, none-raised, one-raised, runs-or-idle, se-reads, finishing, is-SE}
+use Rattle.zsrm.proofs.Laws.Tick.{done-dead, done-idle, done-most, ends-by, goes-on-cases, none-raised, one-raised, runs-or-idle, se-reads, finishing, is-SE}
+use Rattle.zsrm.proofs.Laws.Replay.{AllLegal, kept-at, legal-may, replayed-is}
 use Rattle.zsrm.specs.declared.mode.Mode.the-variants.{S, SE}
 
 -- "It is consistent when", of the place j at tick t, by its standing
@@ -120,7 +124,7 @@ consistency g r =
 -- a place where nothing has run is sound with nothing done
 opening-sound : (g : Given) (t j done : ℕ) → done ≡ 0 → Sound g t j done (opening (g .lists .jobs) t j)
 opening-sound g t j done z =
-    opens (g .lists .jobs) t j (Sound g t j done)
+    opening-cases (g .lists .jobs) t j (Sound g t j done)
     (λ l a c. record { here = record { job = l; room = omega arith }; whole = omega arith; after = omega arith; by = a })
     (λ l a c. record { here = record { job = l; room = omega arith }; short = omega arith })
     (λ w. record { away = w; none = z })
@@ -129,7 +133,7 @@ opening-sound g t j done z =
 opening-accounted : (g : Given) (t j : ℕ) (p : Place) → (j < jobCount (g .lists .jobs) → t ≤ arrival (g .lists .jobs) j) → p .done ≡ 0 → p .suspended ≡ 0 → p .waited ≡ 0
     → Accounted (arrival (g .lists .jobs) j) t p (opening (g .lists .jobs) t j)
 opening-accounted g t j p h d s w =
-    opens (g .lists .jobs) t j (Accounted (arrival (g .lists .jobs) j) t p) (λ l a c. omega arith) (λ l a c. omega (arith, h l)) (λ _. (s, w))
+    opening-cases (g .lists .jobs) t j (Accounted (arrival (g .lists .jobs) j) t p) (λ l a c. omega arith) (λ l a c. omega (arith, h l)) (λ _. (s, w))
 
 pub fresh-consistent : (g : Given) → consistent g (fresh (g .lists .jobs)) ≡ true
 unfolding freshPlace
@@ -150,10 +154,10 @@ module _ (g : Given) (r : Record) (e : ℕ) (may : candidateOrIdle g r e ≡ tru
   keeps-place : (s : Standing) → standingAt r j ≡ s → Sound g (r .tick) j (doneAt r j) s
       → Sound g (suc (r .tick)) j (doneAfter g r e j) (standingAfter g r e j s)
   unfolding standingAfter alive
-  keeps-place NotArrived q w = opening-sound g (suc (r .tick)) j (doneAfter g r e j) (done-dead g r e may j l (ap unfinished q) ∙ w .none)
+  keeps-place NotArrived q w = opening-sound g (suc (r .tick)) j (doneAfter g r e j) (done-dead g r e may j l (ap isUnfinished q) ∙ w .none)
   keeps-place Unfinished q w =
       let here = stays-here (w .here) in
-      goes-on g r e (Sound g (suc (r .tick)) j (doneAfter g r e j)) j
+      goes-on-cases g r e (Sound g (suc (r .tick)) j (doneAfter g r e j)) j
       (λ p f. record { here = here; whole = f; after = omega arith; by = omega arith })
       (λ x y. record { here = here; short = short x (ℕ-discrete e j); after = omega arith; by = omega arith; se = ends-by g r e j y .1 .se })
       (λ x y. record { here = here; short = short x (ℕ-discrete e j) })
@@ -164,11 +168,11 @@ module _ (g : Given) (r : Record) (e : ℕ) (may : candidateOrIdle g r e ≡ tru
           omega (arith, w .short, done-most g r e j)
       short x (no p) = omega (arith, w .short, done-idle g r e j p)
   keeps-place (Finished f) q w =
-      record { here = stays-here (w .here); whole = done-dead g r e may j l (ap unfinished q) ∙ w .whole; after = w .after; by = omega arith }
+      record { here = stays-here (w .here); whole = done-dead g r e may j l (ap isUnfinished q) ∙ w .whole; after = w .after; by = omega arith }
   keeps-place (Ended x) q w =
       record {
         here = stays-here (w .here);
-        short = omega (arith, done-dead g r e may j l (ap unfinished q));
+        short = omega (arith, done-dead g r e may j l (ap isUnfinished q));
         after = w .after;
         by = omega arith;
         se = w .se;
@@ -191,13 +195,14 @@ module _ (g : Given) (r : Record) (e : ℕ) (may : candidateOrIdle g r e ≡ tru
       → Accounted (arrival (g .lists .jobs) j) (suc (r .tick)) (placeAfter g r e j) (standingAfter g r e j s)
   unfolding standingAfter alive placeAfter doneAt suspendedAt waitedAt
   keeps-account NotArrived q w h =
-      let z = none-raised g r e may j l (ap unfinished q) in
+      let z = none-raised g r e may j l (ap isUnfinished q) in
       opening-accounted g (suc (r .tick)) j (placeAfter g r e j) (w .away) (omega (arith, z .done-by, w .none)) (omega (arith, z .suspended-by, h .0)) (omega (arith, z .waited-by, h .1))
   keeps-account Unfinished q w h =
-      let more = spent-on (w .here .job) (ap unfinished q) in
-      goes-on g r e (Accounted (arrival (g .lists .jobs) j) (suc (r .tick)) (placeAfter g r e j)) j (λ p f. omega (arith, more, h)) (λ x y. omega (arith, more, h)) (λ x y. omega (arith, more, h))
-  keeps-account (Finished f) q w h = omega (arith, spent-same (ap unfinished q), h)
-  keeps-account (Ended x) q w h = omega (arith, spent-same (ap unfinished q), h)
+      let more = spent-on (w .here .job) (ap isUnfinished q) in
+      goes-on-cases g r e (Accounted (arrival (g .lists .jobs) j) (suc (r .tick)) (placeAfter g r e j))
+      j (λ p f. omega (arith, more, h)) (λ x y. omega (arith, more, h)) (λ x y. omega (arith, more, h))
+  keeps-account (Finished f) q w h = omega (arith, spent-same (ap isUnfinished q), h)
+  keeps-account (Ended x) q w h = omega (arith, spent-same (ap isUnfinished q), h)
 
 pub advanced-consistent : (g : Given) (r : Record) (e : ℕ) → r .tick < 16384 → candidateOrIdle g r e ≡ true → consistent g r ≡ true
     → consistent g (advanced g r e) ≡ true
@@ -245,7 +250,7 @@ module _ (g : Given) (r : Record) (ok : consistent g r ≡ true) where
   unfolding alive
   pending-alive j l few a nf ne = go (standingAt r j) refl (sound-at j (omega arith))
     where
-      go : (s : Standing) → standingAt r j ≡ s → Sound g (r .tick) j (doneAt r j) s → unfinished s ≡ true
+      go : (s : Standing) → standingAt r j ≡ s → Sound g (r .tick) j (doneAt r j) s → isUnfinished s ≡ true
       go NotArrived q w = absurd (omega (arith, w .away l))
       go Unfinished q w = refl
       go (Finished f) q w = absurd (nf f q)
@@ -256,8 +261,7 @@ module _ (g : Given) (r : Record) (ok : consistent g r ≡ true) where
   unended s j e l q =
       let w = rw q at (sound-at j l) in
       let both : S ≡ SE = sym s ∙ w .se in
-      let z : _≡_ {A = ℕ} 0 1 = cc in
-      omega arith
+      apart (cc)
 
   -- a place beyond the jobs is not arrived
   pub beyond-waits : (j : ℕ) → jobCount (g .lists .jobs) ≤ j → j < 64 → standingAt r j ≡ NotArrived
@@ -268,3 +272,14 @@ module _ (g : Given) (r : Record) (ok : consistent g r ≡ true) where
       go Unfinished w = absurd (omega arith)
       go (Finished f) w = absurd (omega arith)
       go (Ended e) w = absurd (omega arith)
+
+-- the record before each tick of a legal schedule, and the one at its end, is consistent
+pub legal-consistent : (g : Given) (schedule : List ℕ) → length schedule ≤ 16384 → AllLegal g (fresh (g .lists .jobs)) idle schedule → (t : ℕ) → consistent g (recordBefore g schedule t) ≡ true
+unfolding recordBefore
+legal-consistent g schedule limit legal t =
+    kept-at g 16384 (λ r. consistent g r ≡ true) (λ r p e b l s. advanced-consistent g r e b (legal-may g r p e l) s) (fresh (g .lists .jobs)) idle schedule
+    (rw tick-fresh (omega arith)) legal (fresh-consistent g) t
+
+pub replayed-consistent : (g : Given) (schedule : List ℕ) → length schedule ≤ 16384 → AllLegal g (fresh (g .lists .jobs)) idle schedule → consistent g (replayed g schedule) ≡ true
+replayed-consistent g schedule limit legal =
+    subst (λ (r : Record). consistent g r ≡ true) (replayed-is g schedule (length schedule) refl) (legal-consistent g schedule limit legal (length schedule))

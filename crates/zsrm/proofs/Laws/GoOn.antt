@@ -1,49 +1,88 @@
--- Longer planning by parts: what going on from a record answers. Where nothing is refused the record is consistent and has room for the
--- ticks, and both stay so along the run; so a run of a + b ticks is accepted exactly where its parts are, and is their entries end to end.
--- One tick is a step, and from the fresh record it is our run; from our run's record both tie choices go on alike. After a legal schedule
--- Stay goes on legally: between scheduling instants it keeps the entry before, whoever chose that.
+-- Runs by steps, and by parts. A step that meets its checks is taken, and so is each of a run's. Where going on from a record is not refused
+-- the record is consistent and has room for the ticks, and both stay so along the run; so a run of a + b ticks is accepted exactly where its
+-- parts are, and is their entries end to end. One tick is a step, and from the fresh record it is our run; from our run's record both tie
+-- choices go on alike. After a legal schedule Stay goes on legally: between scheduling instants it keeps the entry before, whoever chose that.
 use Prim.Native.Nat.{_+_, _<_, suc, zero, ℕ, _≤_}
 use mathlib.Core.Bool.{false, not, true}
 use mathlib.Core.List.{_++_, List, [], _∷_}
 use mathlib.Core.Logic.{inl, inr, _↔_, _⊎_}
-use mathlib.Core.Path.{ap, ap₂, refl, subst, sym, _∙_, _≡_}
+use mathlib.Core.Path.{ap, ap₂, refl, sym, _∙_, _≡_}
 use native.Mathlib.Decide.{ℕ-discrete}
 use native.Mathlib.Numerals.{add-one}
 use native.Mathlib.Omega.{arith}
 use lib.Dec.{eqb, ltb}
 use lib.ListN.{drop, length, length-append}
 use borrow.Author.Tests.{eq-eqb, eqb-true, le-ltb, lt-ltb, ltb-false, ne-eqb, not-false}
-use Rattle.bits.proofs.Bools.{either}
-use Rattle.tables.specs.declared.outcome.Outcome.{Outcome}
-use Rattle.tables.specs.declared.outcome.Outcome.the-variants.{Done, Refused}
+use Rattle.bits.proofs.Laws.Bools.{either}
+use Rattle.tables.specs.declared.answers.Outcome.{Outcome}
+use Rattle.tables.specs.declared.answers.Outcome.the-variants.{Done, Refused}
 use Rattle.zsrm.specs.declared.record.Record.{Record}
 use Rattle.zsrm.specs.declared.tie.Tie.{Tie}
 use Rattle.zsrm.specs.declared.tie.Tie.the-variants.{Lowest, Stay}
-use Rattle.zsrm.specs.Answers.{checkGoOn, checkSchedule, checkStep, claimAnswer, goOnAnswer, goOnSchedule, ran, refusedStep, runAnswer, runSchedule, stepAnswer, stepped, stepsFrom}
-use Rattle.tables.specs.Refusals.{unless, before, check10, check9, checkLists, refuse}
+use Rattle.zsrm.specs.Answers.{checkGoOn, checkStep, claimAnswer, goOnAnswer, goOnSchedule, ran, refusedStep, runAnswer, runSchedule, stepAnswer, stepped, stepsFrom, freshAnswer}
+use Rattle.tables.specs.Refusals.{unless, before, check10, check9, checkLists, refuse, checkSchedule}
 use Rattle.zsrm.specs.Legal.{claim}
 use Rattle.zsrm.specs.Record.{blank, check11, check12, checkRoom, consistent, fresh}
 use Rattle.zsrm.specs.Run.{entriesBy, finalBy, replay, replayed, runEntries, runRecord}
 use Rattle.zsrm.specs.Given.{Given}
-use Rattle.tables.specs.Tables.{Lists}
 use Rattle.zsrm.specs.Tick.{advanced, choice}
-use Rattle.zsrm.proofs.Laws.Answers.{accepted, LegalClaim, lists-numbered, run-given, whole-legal}
+use Rattle.zsrm.proofs.Laws.Answers.{LegalClaim, run-given, whole-legal}
 use Rattle.zsrm.proofs.Laws.Choice.{choice-may}
-use Rattle.zsrm.proofs.Laws.Exactly.{step-checked}
-use Rattle.zsrm.proofs.Laws.Consistent.{consistent-tick, fresh-consistent}
-use Rattle.zsrm.proofs.Laws.Going.{Going, final-more, final-none, going-more, going-none}
+use Rattle.zsrm.proofs.Laws.Consistent.{consistent-tick, fresh-consistent, replayed-consistent}
+use Rattle.zsrm.proofs.Laws.Going.{Going, final-more, final-none, going-more, going-none, steps-entry}
 use Rattle.zsrm.proofs.Laws.Places.{tick-fresh}
-use Rattle.zsrm.proofs.Laws.Promises.{going-from}
-use Rattle.tables.proofs.Laws.Accepted.{lists-few}
-use Rattle.tables.proofs.Laws.Refusals.{Numbered, before-first, before-last, before-second, numbered-before, numbered-refuse, refuse-fine, unless-done, unless-refused}
-use Rattle.zsrm.proofs.Laws.Replay.{tick-replay}
-use Rattle.zsrm.proofs.Laws.Run.{length-entries, replay-append, resumed-legal, run-by-parts, stay-resumes}
+use Rattle.tables.proofs.Laws.Accepted.{lists-few, accepted, Accepted}
+use Rattle.tables.proofs.Laws.Refusals.{before-first, before-last, before-second, numbered-before, numbered-refuse, refuse-fine, unless-done, unless-refused, lists-numbered, Other}
+use Rattle.zsrm.proofs.Laws.Replay.{tick-replay, replay-append}
+use Rattle.zsrm.proofs.Laws.Run.{length-entries, resumed-legal, run-by-parts, stay-resumes}
 use Rattle.zsrm.proofs.Laws.Ties.{runs-agree}
-use Rattle.zsrm.proofs.Laws.Verdicts.{replayed-consistent}
-use Rattle.tables.proofs.Laws.Said.{outcome-said}
-use Rattle.tables.specs.Said.{outcomeSaid}
-use Rattle.tables.specs.Said as outcome
+use Rattle.tables.specs.Said.{outcomeSaid, done}
+use Rattle.tables.proofs.Laws.Said.{said-done}
 use Rattle.zsrm.specs.declared.answers.Claim.the-variants as claims
+
+-- a step that meets its checks is taken
+step-taken : (g : Given) (tie : Tie) (r : Record) → checkLists (g .lists) ≡ Done → consistent g r ≡ true → r .tick < 16384 → stepAnswer g tie r ≡ stepped g tie r
+unfolding stepAnswer checkStep check11 check12 refuse before unless
+step-taken g tie r ok sound time = rw (ok, sound, ne-eqb (r .tick) 16384 (λ e. omega arith))
+
+-- so is each of a run's
+module _ (g : Given) (ok : checkLists (g .lists) ≡ Done) (tie : Tie) where
+  pub going-from : (start : Record) → consistent g start ≡ true → (n : ℕ) → start .tick + n ≤ 16384 → Going g (choice g tie) start (stepsFrom g tie start n) n
+  unfolding stepsFrom
+  going-from start sound zero b = going-none g (choice g tie) start sound
+  going-from start sound (suc n) b =
+      let w = going-from start sound n (omega arith) in
+      let r = stepsFrom g tie start n in
+      let s = steps-entry g tie r (stepAnswer g tie r) (step-taken g tie r ok (w .sound) (omega (arith, w .time))) in
+      rw add-one at (going-more g (choice g tie) start r (stepAnswer g tie r .«record») n w (omega arith) (choice-may g tie r) (s .1))
+
+  pub going : (n : ℕ) → n ≤ 16384 → Going g (choice g tie) (fresh (g .lists .jobs)) (stepsFrom g tie (fresh (g .lists .jobs)) n) n
+  going n b = going-from (fresh (g .lists .jobs)) (fresh-consistent g) n (rw tick-fresh (omega arith))
+
+-- our run, where nothing is refused
+pub run-checked : (g : Given) (tie : Tie) (horizon : ℕ) (lent : List ℕ) → outcomeSaid (runAnswer g tie horizon lent .outcome) ≡ done → checkSchedule (g .lists) horizon (length lent) ≡ Done
+unfolding runAnswer ran
+run-checked g tie horizon lent = said-done (checkSchedule (g .lists) horizon (length lent)) .0
+
+module _ (g : Given) (tie : Tie) (horizon : ℕ) (lent : List ℕ) (ok : checkSchedule (g .lists) horizon (length lent) ≡ Done) where
+  pub fresh-record : freshAnswer (g .lists .tasks) (g .lists .jobs) .«record» ≡ fresh (g .lists .jobs)
+  unfolding freshAnswer ran
+  fresh-record = unless-done _ _ (checkLists (g .lists)) (accepted (g .lists) horizon (length lent) ok .lists)
+
+  pub ran-consistent : consistent g (runAnswer g tie horizon lent .«record») ≡ true
+  unfolding runRecord
+  ran-consistent =
+      let a = accepted (g .lists) horizon (length lent) ok in
+      let w = going g (a .lists) tie horizon (a .bounded) in
+      ap (consistent g) (run-given g tie horizon lent ok .0 ∙ sym (w .is)) ∙ w .sound
+
+  pub ran-step : (t : ℕ) → t < horizon
+      → stepAnswer g tie (stepsFrom g tie (freshAnswer (g .lists .tasks) (g .lists .jobs) .«record») t) ≡ stepped g tie (finalBy g (choice g tie) (fresh (g .lists .jobs)) t)
+  ran-step t l =
+      let a = accepted (g .lists) horizon (length lent) ok in
+      let w = going g (a .lists) tie t (omega arith) in
+      let z = tick-fresh (g .lists .jobs) in
+      rw fresh-record (step-taken g tie _ (a .lists) (w .sound) (omega (arith, w .time)) ∙ ap (stepped g tie) (w .is))
 
 -- what going on that is not refused says of its input
 pub record GoesOn (g : Given) (r : Record) (ticks entries : ℕ) : Type 0 where
@@ -73,53 +112,22 @@ module _ (g : Given) (r : Record) (ticks entries : ℕ) where
   unfolding checkGoOn check10 check11 checkRoom refuse before
   go-on-accepted lists whole sound room = rw (lists, eq-eqb entries ticks whole, sound, le-ltb 16384 (r .tick + ticks) room)
 
+-- whatever is refused: the lists with 2 to 8, and then 10, 11 and 12
 abbrev NotNine : ℕ → Type 0
 NotNine number = number ≡ 9 → ⊥
 
-lists-said : (l : Lists) → outcomeSaid (checkLists l) ≡ outcome.done → checkLists l ≡ Done
-unfolding outcomeSaid
-lists-said l says = outcome-said (checkLists l) Done says
+pub never-nine : (g : Given) (r : Record) (ticks entries : ℕ) → Other 9 (checkGoOn g r ticks entries)
+unfolding checkGoOn check10 check11 checkRoom
+never-nine g r ticks entries =
+    numbered-before NotNine (checkLists (g .lists)) _ (lists-numbered NotNine (λ n least most e. omega arith) (g .lists))
+    (numbered-before NotNine (check10 entries ticks) _ (numbered-refuse NotNine _ 10 0 (λ e. omega arith))
+    (numbered-before NotNine (check11 (consistent g r)) _ (numbered-refuse NotNine _ 11 0 (λ e. omega arith)) (numbered-refuse NotNine _ 12 0 (λ e. omega arith))))
 
 -- the answer and the list, where nothing is refused and where something is
 module _ (g : Given) (tie : Tie) (r : Record) (ticks : ℕ) (lent : List ℕ) where
-  pub go-on-outcome : goOnAnswer g tie r ticks lent .outcome ≡ checkGoOn g r ticks (length lent)
+  pub go-on-said : outcomeSaid (goOnAnswer g tie r ticks lent .outcome) ≡ done ↔ checkGoOn g r ticks (length lent) ≡ Done
   unfolding goOnAnswer ran
-  go-on-outcome = refl
-
-  pub go-on-checked : outcomeSaid (goOnAnswer g tie r ticks lent .outcome) ≡ outcome.done ↔ checkGoOn g r ticks (length lent) ≡ Done
-  unfolding goOnAnswer ran outcomeSaid
-  go-on-checked = (outcome-said (checkGoOn g r ticks (length lent)) Done, ap outcomeSaid)
-
-  pub go-on-exactly : outcomeSaid (goOnAnswer g tie r ticks lent .outcome) ≡ outcome.done
-      ↔ (outcomeSaid (checkLists (g .lists)) ≡ outcome.done) × (length lent ≡ ticks) × (consistent g r ≡ true) × (r .tick + ticks ≤ 16384)
-  unfolding outcomeSaid
-  go-on-exactly = (
-    λ ok. let w = goes-on g r ticks (length lent) (go-on-checked .0 ok) in (ap outcomeSaid (w .lists), w .whole, w .sound, w .room),
-    λ w. go-on-checked .1 (go-on-accepted g r ticks (length lent) (lists-said (g .lists) (w .0)) (w .1) (w .2) (w .3)),
-  )
-
-  -- past the limit it is 12, and not 9
-  pub go-on-past-said : outcomeSaid (checkLists (g .lists)) ≡ outcome.done → length lent ≡ ticks → consistent g r ≡ true → 16384 < r .tick + ticks
-      → outcomeSaid (goOnAnswer g tie r ticks lent .outcome) ≡ outcome.refused 12 0
-  unfolding outcomeSaid goOnAnswer ran checkGoOn check10 check11 checkRoom refuse before
-  go-on-past-said lists whole sound past = rw (lists-said (g .lists) lists, eq-eqb (length lent) ticks whole, sound, lt-ltb 16384 (r .tick + ticks) past)
-
-  -- whatever is refused: the lists with 2 to 8, and then 10, 11 and 12
-  pub go-on-never-nine : (place : ℕ) → outcomeSaid (goOnAnswer g tie r ticks lent .outcome) ≡ outcome.refused 9 place → ⊥
-  unfolding outcomeSaid checkGoOn check10 check11 checkRoom
-  go-on-never-nine place says =
-      subst (Numbered NotNine) (sym go-on-outcome ∙ outcome-said (goOnAnswer g tie r ticks lent .outcome) (Refused 9 place) says)
-      (numbered-before NotNine (checkLists (g .lists)) _ (lists-numbered NotNine (λ n least most e. omega arith) (g .lists))
-      (numbered-before NotNine (check10 (length lent) ticks) _ (numbered-refuse NotNine _ 10 0 (λ e. omega arith))
-      (numbered-before NotNine (check11 (consistent g r)) _ (numbered-refuse NotNine _ 11 0 (λ e. omega arith)) (numbered-refuse NotNine _ 12 0 (λ e. omega arith)))))
-      refl
-
-  pub go-on-refused-keeps : (number place : ℕ) → outcomeSaid (goOnAnswer g tie r ticks lent .outcome) ≡ outcome.refused number place
-      → (goOnSchedule g tie r ticks lent ≡ lent) × (goOnAnswer g tie r ticks lent .«record» ≡ blank)
-  unfolding goOnAnswer goOnSchedule ran outcomeSaid
-  go-on-refused-keeps number place says =
-      let e = outcome-said (checkGoOn g r ticks (length lent)) (Refused number place) says in
-      (unless-refused _ _ _ number place e, unless-refused _ _ _ number place e)
+  go-on-said = said-done (checkGoOn g r ticks (length lent))
 
   pub go-on-done : checkGoOn g r ticks (length lent) ≡ Done → (made : Record) → made ≡ finalBy g (choice g tie) r (length lent) → ran Done made ≡ goOnAnswer g tie r ticks lent
   unfolding goOnAnswer
@@ -146,40 +154,21 @@ module _ (g : Given) (tie : Tie) (r : Record) (ticks : ℕ) (lent : List ℕ) wh
 
 module _ (g : Given) (tie : Tie) (r : Record) where
   -- the record stays consistent, and its tick goes on with the run
-  going-by : consistent g r ≡ true → (n : ℕ) → r .tick + n ≤ 16384 → Going g (choice g tie) r (finalBy g (choice g tie) r n) n
+  pub going-by : consistent g r ≡ true → (n : ℕ) → r .tick + n ≤ 16384 → Going g (choice g tie) r (finalBy g (choice g tie) r n) n
   going-by sound zero b = rw (final-none g (choice g tie) r) (going-none g (choice g tie) r sound)
   going-by sound (suc n) b =
       let w = going-by sound n (omega arith) in
       let x = finalBy g (choice g tie) r n in
       rw add-one at (going-more g (choice g tie) r x (finalBy g (choice g tie) r (n + 1)) n w (omega arith) (choice-may g tie x) (final-more g (choice g tie) r n))
 
-  -- what it gives may be saved and handed in again, and is what as many steps give
-  pub go-on-leaves : (ticks : ℕ) (lent : List ℕ) → checkGoOn g r ticks (length lent) ≡ Done
-      → (consistent g (goOnAnswer g tie r ticks lent .«record») ≡ true) × (goOnAnswer g tie r ticks lent .«record» .tick ≡ r .tick + ticks)
-      × (goOnAnswer g tie r ticks lent .«record» ≡ stepsFrom g tie r ticks)
-  go-on-leaves ticks lent ok =
-      let w = goes-on g r ticks (length lent) ok in
-      let x = going-by (w .sound) ticks (w .room) in
-      let is = go-on-given g tie r ticks lent ok .0 in
-      (ap (consistent g) is ∙ x .sound, ap (λ (s : Record). s .tick) is ∙ x .time, is ∙ sym (going-from g (w .lists) tie r (w .sound) ticks (w .room) .is))
-
-  -- 0 ticks
-  pub go-on-none : outcomeSaid (checkLists (g .lists)) ≡ outcome.done → consistent g r ≡ true
-      → (outcomeSaid (goOnAnswer g tie r 0 [] .outcome) ≡ outcome.done) × (goOnAnswer g tie r 0 [] .«record» ≡ r) × (goOnSchedule g tie r 0 [] ≡ [])
-  unfolding entriesBy
-  go-on-none lists sound =
-      let ok = go-on-accepted g r 0 0 (lists-said (g .lists) lists) refl sound (omega (arith, consistent-tick g r sound)) in
-      let w = go-on-given g tie r 0 [] ok in
-      (go-on-checked g tie r 0 [] .1 ok, w .0 ∙ final-none g (choice g tie) r, w .1)
-
   -- a ticks, and then b
-  final-by-parts : (a b : ℕ) → finalBy g (choice g tie) r (a + b) ≡ finalBy g (choice g tie) (finalBy g (choice g tie) r a) b
+  pub final-by-parts : (a b : ℕ) → finalBy g (choice g tie) r (a + b) ≡ finalBy g (choice g tie) (finalBy g (choice g tie) r a) b
   unfolding finalBy
   final-by-parts a b =
       let es = entriesBy g (choice g tie) r a in
       ap (replay g r) (run-by-parts g (choice g tie) a b r) ∙ replay-append g r es (entriesBy g (choice g tie) (replay g r es) b)
 
-  entries-by-parts : (a b : ℕ) → entriesBy g (choice g tie) r (a + b) ≡ entriesBy g (choice g tie) r a ++ entriesBy g (choice g tie) (finalBy g (choice g tie) r a) b
+  pub entries-by-parts : (a b : ℕ) → entriesBy g (choice g tie) r (a + b) ≡ entriesBy g (choice g tie) r a ++ entriesBy g (choice g tie) (finalBy g (choice g tie) r a) b
   unfolding finalBy
   entries-by-parts a b = run-by-parts g (choice g tie) a b r
 
@@ -200,27 +189,6 @@ module _ (g : Given) (tie : Tie) (r : Record) where
         let t = going-by (w .sound) a (w .room) in
         let v = goes-on g (finalBy g (choice g tie) r a) b (length second) (rw (go-on-given g tie r a first x .0) at y) in
         go-on-accepted g r (a + b) (length lent) (w .lists) long (w .sound) (omega (arith, t .time, v .room))
-
-    pub by-parts : checkGoOn g r (a + b) (length lent) ≡ Done
-        → (goOnAnswer g tie r (a + b) lent .«record» ≡ goOnAnswer g tie (goOnAnswer g tie r a first .«record») b second .«record»)
-        × (goOnSchedule g tie r (a + b) lent ≡ goOnSchedule g tie r a first ++ goOnSchedule g tie (goOnAnswer g tie r a first .«record») b second)
-    by-parts ok =
-        let w = parts-accepted ok in
-        let x = go-on-given g tie r a first (w .0) in
-        let y = go-on-given g tie (goOnAnswer g tie r a first .«record») b second (w .1) in
-        let z = go-on-given g tie r (a + b) lent ok in (
-          z .0 ∙ final-by-parts a b ∙ sym (y .0 ∙ ap (λ (s : Record). finalBy g (choice g tie) s b) (x .0)),
-          z .1 ∙ entries-by-parts a b ∙ ap₂ (λ (l m : List ℕ). l ++ m) (sym (x .1)) (sym (y .1 ∙ ap (λ (s : Record). entriesBy g (choice g tie) s b) (x .0))),
-        )
-
-    pub parts-exactly : length lent ≡ a + b → outcomeSaid (goOnAnswer g tie r (a + b) lent .outcome) ≡ outcome.done
-        ↔ (outcomeSaid (goOnAnswer g tie r a first .outcome) ≡ outcome.done) × (outcomeSaid (goOnAnswer g tie (goOnAnswer g tie r a first .«record») b second .outcome) ≡ outcome.done)
-    parts-exactly long = (
-      λ ok. let w = parts-accepted (go-on-checked g tie r (a + b) lent .0 ok) in
-          (go-on-checked g tie r a first .1 (w .0), go-on-checked g tie (goOnAnswer g tie r a first .«record») b second .1 (w .1)),
-      λ w. go-on-checked g tie r (a + b) lent .1
-          (whole-accepted long (go-on-checked g tie r a first .0 (w .0)) (go-on-checked g tie (goOnAnswer g tie r a first .«record») b second .0 (w .1))),
-    )
 
 -- one tick is a step
 last-tick : (t : ℕ) → t ≤ 16384 → ltb 16384 (t + 1) ≡ eqb t 16384
@@ -247,18 +215,6 @@ module _ (g : Given) (tie : Tie) (r : Record) (lent : List ℕ) (one : length le
       go : (o : Outcome) → unless o (λ number place. blank) (advanced g r (choice g tie r)) ≡ unless o refusedStep (stepped g tie r) .«record»
       go Done = refl
       go (Refused number place) = refl
-
-  pub one-entry : outcomeSaid (stepAnswer g tie r .outcome) ≡ outcome.done → goOnSchedule g tie r 1 lent ≡ stepAnswer g tie r .entry ∷ []
-  unfolding outcomeSaid goOnSchedule stepAnswer stepped unless entriesBy
-  one-entry says =
-      let ok = sym (step-checked g tie r) ∙ outcome-said (stepAnswer g tie r .outcome) Done says in
-      rw (one-checked g r (length lent) one, ok)
-
--- a run past the limit is 9
-pub run-past-said : (g : Given) (tie : Tie) (horizon : ℕ) (lent : List ℕ) → outcomeSaid (checkLists (g .lists)) ≡ outcome.done → 16384 < horizon
-    → outcomeSaid (runAnswer g tie horizon lent .outcome) ≡ outcome.refused 9 0
-unfolding outcomeSaid runAnswer ran checkSchedule check9 refuse before
-run-past-said g tie horizon lent lists past = rw (lists-said (g .lists) lists, lt-ltb 16384 horizon past)
 
 -- the fresh record is consistent, and has room for every horizon that is not refused
 fresh-checked : (g : Given) (horizon entries : ℕ) (r : Record) → horizon ≤ 16384 → r ≡ fresh (g .lists .jobs)
@@ -312,27 +268,16 @@ module _ (g : Given) (tie : Tie) (horizon : ℕ) (lent : List ℕ) (ok : checkSc
       let z = tick-fresh (g .lists .jobs) in
       ap (λ (r : Record). r .tick) (run-given g tie horizon lent ok .0) ∙ going-by g tie f (fresh-consistent g) horizon (omega (arith, a .bounded)) .time ∙ omega arith
 
-  pub run-goes-on-alike : (ticks : ℕ) (more : List ℕ)
-      → (goOnAnswer g Stay (runAnswer g tie horizon lent .«record») ticks more ≡ goOnAnswer g Lowest (runAnswer g tie horizon lent .«record») ticks more)
-      × (goOnSchedule g Stay (runAnswer g tie horizon lent .«record») ticks more ≡ goOnSchedule g Lowest (runAnswer g tie horizon lent .«record») ticks more)
-  unfolding goOnAnswer goOnSchedule ran unless finalBy
-  run-goes-on-alike ticks more = go (checkGoOn g r ticks (length more)) refl
+  pub run-alike : (ticks : ℕ) → runAnswer g tie horizon lent .«record» .tick + ticks ≤ 16384
+      → entriesBy g (choice g Stay) (runAnswer g tie horizon lent .«record») ticks ≡ entriesBy g (choice g Lowest) (runAnswer g tie horizon lent .«record») ticks
+  run-alike ticks room = entries-alike g (a .lists) horizon ticks (omega (arith, room, ran-time)) _ (lowest tie (run-given g tie horizon lent ok .0))
     where
-      r : Record
-      r = runAnswer g tie horizon lent .«record»
+      a : Accepted (g .lists) horizon (length lent)
+      a = accepted (g .lists) horizon (length lent) ok
 
-      lowest : (t : Tie) → r ≡ runRecord g t horizon → r ≡ runRecord g Lowest horizon
-      lowest Stay q = let a = accepted (g .lists) horizon (length lent) ok in q ∙ runs-agree g (a .lists) horizon (a .bounded) .1
+      lowest : (t : Tie) → runAnswer g tie horizon lent .«record» ≡ runRecord g t horizon → runAnswer g tie horizon lent .«record» ≡ runRecord g Lowest horizon
+      lowest Stay q = q ∙ runs-agree g (a .lists) horizon (a .bounded) .1
       lowest Lowest q = q
-
-      go : (o : Outcome) → checkGoOn g r ticks (length more) ≡ o
-          → (ran o (finalBy g (choice g Stay) r ticks) ≡ ran o (finalBy g (choice g Lowest) r ticks))
-          × (unless o (λ number place. more) (entriesBy g (choice g Stay) r ticks) ≡ unless o (λ number place. more) (entriesBy g (choice g Lowest) r ticks))
-      go Done q =
-          let w = goes-on g r ticks (length more) q in
-          let e = entries-alike g (w .lists) horizon ticks (omega (arith, w .room, ran-time)) r (lowest tie (run-given g tie horizon lent ok .0)) in
-          (ap (λ (es : List ℕ). ran Done (replay g r es)) e, e)
-      go (Refused number place) q = (refl, refl)
 
 -- after a legal schedule
 module _ (g : Given) (horizon : ℕ) (schedule : List ℕ) (c : LegalClaim g horizon schedule) (ticks : ℕ) (lent : List ℕ) (whole : length lent ≡ ticks) (room : horizon + ticks ≤ 16384) where
@@ -353,10 +298,3 @@ module _ (g : Given) (horizon : ℕ) (schedule : List ℕ) (c : LegalClaim g hor
       rw (go-on-given g Stay (replayed g schedule) ticks lent claim-accepted .1)
       (unless-done claims.Refused (claim g (schedule ++ es)) (checkSchedule (g .lists) (horizon + ticks) (length (schedule ++ es))) ok
       ∙ whole-legal g (schedule ++ es) .1 (resumed-legal g (choice g Stay) (stay-resumes g (lists-few (g .lists) (a .lists))) schedule ticks (omega (arith, a .whole)) (c .legal)))
-
-  -- and the record is the one at the end of the whole
-  pub record-goes-on : (tie : Tie) → goOnAnswer g tie (replayed g schedule) ticks lent .«record» ≡ replayed g (schedule ++ goOnSchedule g tie (replayed g schedule) ticks lent)
-  unfolding replayed finalBy
-  record-goes-on tie =
-      let w = go-on-given g tie (replayed g schedule) ticks lent claim-accepted in
-      w .0 ∙ ap (replay g (replayed g schedule)) (sym (w .1)) ∙ sym (replay-append g (fresh (g .lists .jobs)) schedule (goOnSchedule g tie (replayed g schedule) ticks lent))

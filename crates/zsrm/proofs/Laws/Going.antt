@@ -14,11 +14,11 @@ use Rattle.zsrm.specs.Answers.{stepped}
 use Rattle.zsrm.specs.Record.{consistent}
 use Rattle.zsrm.specs.Run.{entriesBy, replay, finalBy}
 use Rattle.zsrm.specs.Given.{Given}
-use Rattle.zsrm.specs.Tick.{advanced, choice}
+use Rattle.zsrm.specs.Tick.{advanced, candidateOrIdle, choice}
 use Rattle.zsrm.proofs.Laws.Consistent.{advanced-consistent}
 use Rattle.zsrm.proofs.Laws.Places.{tick-advanced}
-use Rattle.zsrm.proofs.Laws.Run.{replay-append, run-by-parts}
-use Rattle.zsrm.specs.Legal.{candidateOrIdle}
+use Rattle.zsrm.proofs.Laws.Run.{run-by-parts}
+use Rattle.zsrm.proofs.Laws.Replay.{replay-append}
 
 module _ (g : Given) (pick : Record → ℕ) where
   -- one tick more

@@ -4,48 +4,43 @@
 use Prim.Native.Nat.{_+_, _-_, _<_, suc, zero, ℕ, _≤_}
 use mathlib.Core.Bool.{Bool, cond, false, not, true}
 use mathlib.Core.List.{_++_, append-nil, List, _∷_}
-use mathlib.Core.Logic.{inl, inr, _↔_, _⊎_, ⊎-elim}
+use mathlib.Core.Logic.{_↔_, ⊎-elim}
 use mathlib.Core.Path.{ap, ap₂, refl, subst, sym, _∙_, _≡_}
-use native.Mathlib.Nat.{not-suc-le-zero}
 use native.Mathlib.Omega.{arith}
 use lib.Dec.{eqb}
 use lib.ListN.{drop, getD, length, length-append, length-drop, List·getD-append, take}
 use lib.Seq.{getD-append-add, getD-drop, getD-take, length-take-le, take-all, take-append-add, take-at}
 use borrow.Author.Tests.{eq-eqb, eqb-true, ne-eqb, not-false}
 use Rattle.bits.specs.Below.{count}
-use Rattle.bits.proofs.Below.{count-none, count-parts, count-same, count-some}
-use Rattle.bits.proofs.Bools.{by-cond, either}
-use Rattle.tables.specs.declared.outcome.Outcome.the-variants.{Done, Refused}
-use Rattle.tables.specs.Refusals.{before, check10, refuse}
+use Rattle.bits.proofs.Laws.Below.{count-none, count-parts, count-same, count-some}
+use Rattle.bits.proofs.Laws.Bools.{by-cond, either, apart}
+use Rattle.tables.specs.declared.answers.Outcome.the-variants.{Done, Refused}
+use Rattle.tables.specs.Refusals.{before, check10, refuse, checkSchedule}
 use Rattle.tables.specs.Tables.{idle, jobCount, Lists}
-use Rattle.tables.proofs.Laws.Accepted.{lists-few}
+use Rattle.tables.proofs.Laws.Accepted.{lists-few, Accepted, accepted}
 use Rattle.tables.proofs.Laws.Refusals.{before-first, before-second, refuse-fine, unless-done, unless-refused}
 use Rattle.zsrm.specs.declared.answers.Claim.{Claim}
 use Rattle.zsrm.specs.declared.answers.Mended.{Mended}
 use Rattle.zsrm.specs.declared.record.Record.{Record}
 use Rattle.zsrm.specs.declared.tie.Tie.the-variants.{Lowest, Stay}
-use Rattle.zsrm.specs.Answers.{checkMend, checkSchedule, claimAnswer, mendAnswer, mendSchedule}
+use Rattle.zsrm.specs.Answers.{checkMend, claimAnswer, mendAnswer, mendSchedule}
 use Rattle.zsrm.specs.Code.Claims.{Mendable}
 use Rattle.zsrm.specs.Given.{Given}
-use Rattle.zsrm.specs.Legal.{candidateOrIdle, claim, isLegal, legalEntry, legalLength, schedulingInstant}
+use Rattle.zsrm.specs.Legal.{claim, isLegal, legalEntry, legalLength, schedulingInstant}
 use Rattle.zsrm.specs.Mend.{differing, differs, mend, mendChoice, mended}
 use Rattle.zsrm.specs.Record.{fresh}
 use Rattle.zsrm.specs.Run.{entriesBy, finalBy, recordAt, recordBefore, replay, replayed}
 use Rattle.zsrm.specs.Said.{claimSaid, mendedSaid}
-use Rattle.zsrm.specs.Tick.{advanced, choice}
-use Rattle.zsrm.proofs.Laws.Answers.{Accepted, accepted, whole-legal}
+use Rattle.zsrm.specs.Tick.{advanced, candidateOrIdle, choice}
+use Rattle.zsrm.proofs.Laws.Answers.{whole-legal}
 use Rattle.zsrm.proofs.Laws.Choice.{choice-may}
 use Rattle.zsrm.proofs.Laws.Consistent.{advanced-consistent, fresh-consistent}
 use Rattle.zsrm.proofs.Laws.Going.{entries-none}
 use Rattle.zsrm.proofs.Laws.Places.{previous-advanced, previous-fresh, tick-advanced, tick-fresh}
-use Rattle.zsrm.proofs.Laws.Replay.{beginning, kept-at, legal-may, legal-prefix, replayed-is}
-use Rattle.zsrm.proofs.Laws.Run.{Resuming, legal-at-fresh, legal-by, getD-entries, length-entries, replay-append, resumed-legal, stay-goes-on, take-entries}
+use Rattle.zsrm.proofs.Laws.Replay.{beginning, kept-at, legal-may, legal-prefix, replayed-is, legal-at-fresh, legal-by, replay-append}
+use Rattle.zsrm.proofs.Laws.Run.{Resuming, getD-entries, length-entries, resumed-legal, stay-goes-on, take-entries}
 use Rattle.zsrm.proofs.Laws.Said.{claim-said, mended-said}
-use Rattle.zsrm.proofs.Readings.{apart, claim-legal, claim-not-legal, mend-else, mend-keeps}
-use Rattle.tables.specs.Said.{outcomeSaid}
-use Rattle.tables.proofs.Laws.Said.{outcome-said}
-use Rattle.tables.specs.Said as outcome
-use Rattle.zsrm.specs.Said as say
+use Rattle.zsrm.proofs.Readings.{claim-legal, claim-not-legal, mend-else, mend-keeps}
 use Rattle.zsrm.specs.declared.answers.Claim.the-variants as claims
 use Rattle.zsrm.specs.declared.answers.Mended.the-variants as mends
 
@@ -226,7 +221,7 @@ module _ (g : Given) (schedule : List ℕ) where
   pub mend-not-refused : (number place : ℕ) → mend g schedule ≡ mends.Refused number place → ⊥
   unfolding mend
   mend-not-refused number place =
-      by-cond (λ c. c ≡ mends.Refused number place → ⊥) (isLegal g schedule) mends.Whole (mends.Changed (legalLength g schedule) (differing schedule (mended g schedule))) (λ q e. apart (cc)) (λ q e. apart (cc))
+      by-cond (λ c. c ≡ mends.Refused number place → ⊥) (isLegal g schedule) mends.Whole _ (λ q e. apart (cc)) (λ q e. apart (cc))
 
 -- what mending that is not refused says of its input
 pub record Accepts (l : Lists) (horizon entries lent : ℕ) : Type 0 where
@@ -255,19 +250,6 @@ module _ (g : Given) (horizon : ℕ) (schedule lent : List ℕ) where
   unfolding mendAnswer mendSchedule
   refused-is number place e = let o = checkMend (g .lists) horizon (length schedule) (length lent) in (unless-refused _ _ o number place e, unless-refused _ _ o number place e)
 
-  -- a claim that is refused is refused so, and 10 is said of the second list, too
-  pub refused-as-claim : (number place : ℕ) → outcomeSaid (checkSchedule (g .lists) horizon (length schedule)) ≡ outcome.refused number place
-      → mendedSaid (mendAnswer g horizon schedule lent) ≡ outcome.refused number place
-  unfolding outcomeSaid mendedSaid checkMend before
-  refused-as-claim number place says =
-      ap mendedSaid (refused-is number place (rw (outcome-said (checkSchedule (g .lists) horizon (length schedule)) (Refused number place) says)) .0)
-
-  pub refused-second : outcomeSaid (checkSchedule (g .lists) horizon (length schedule)) ≡ outcome.done → (length lent ≡ horizon → ⊥)
-      → mendedSaid (mendAnswer g horizon schedule lent) ≡ outcome.refused 10 0
-  unfolding outcomeSaid mendedSaid checkMend before check10 refuse
-  refused-second says other =
-      ap mendedSaid (refused-is 10 0 (rw (outcome-said (checkSchedule (g .lists) horizon (length schedule)) Done says, ne-eqb (length lent) horizon other)) .0)
-
   module _ (ok : checkMend (g .lists) horizon (length schedule) (length lent) ≡ Done) where
     its : Accepts (g .lists) horizon (length schedule) (length lent)
     its = accepts (g .lists) horizon (length schedule) (length lent) ok
@@ -280,68 +262,11 @@ module _ (g : Given) (horizon : ℕ) (schedule lent : List ℕ) where
     unfolding mendSchedule
     schedule-is = unless-done (λ number place. lent) (mended g schedule) (checkMend (g .lists) horizon (length schedule) (length lent)) ok
 
-    claim-says : (c : Claim) → claimSaid (claimAnswer g horizon schedule) ≡ claimSaid c ↔ claim g schedule ≡ c
+    pub claim-says : (c : Claim) → claimSaid (claimAnswer g horizon schedule) ≡ claimSaid c ↔ claim g schedule ≡ c
     unfolding claimAnswer
     claim-says c =
         let is = unless-done claims.Refused (claim g schedule) (checkSchedule (g .lists) horizon (length schedule)) (its .checked) in
         (λ e. sym is ∙ claim-said (claimAnswer g horizon schedule) c e, λ e. ap claimSaid (is ∙ e))
 
-    mend-says : (m : Mended) → mendedSaid (mendAnswer g horizon schedule lent) ≡ mendedSaid m ↔ mend g schedule ≡ m
+    pub mend-says : (m : Mended) → mendedSaid (mendAnswer g horizon schedule lent) ≡ mendedSaid m ↔ mend g schedule ≡ m
     mend-says m = (λ e. sym answer-is ∙ mended-said (mendAnswer g horizon schedule lent) m e, λ e. ap mendedSaid (answer-is ∙ e))
-
-    -- the result is legal
-    pub mended-said-legal : claimSaid (claimAnswer g horizon (mendSchedule g horizon schedule lent)) ≡ say.legal
-    unfolding claimSaid claimAnswer
-    mended-said-legal =
-        ap claimSaid (ap (claimAnswer g horizon) schedule-is
-        ∙ unless-done claims.Refused (claim g (mended g schedule)) (checkSchedule (g .lists) horizon (length (mended g schedule))) (rw (length-mended g schedule) (its .checked))
-        ∙ mended-legal g schedule (its .few) (its .limit))
-
-    -- the answer beside the claim check's
-    pub whole-exactly : mendedSaid (mendAnswer g horizon schedule lent) ≡ say.whole ↔ claimSaid (claimAnswer g horizon schedule) ≡ say.legal
-    unfolding mendedSaid claimSaid
-    whole-exactly = (
-      λ e. claim-says claims.Legal .1 (mend-whole g schedule .0 (mend-says mends.Whole .0 e)),
-      λ e. mend-says mends.Whole .1 (mend-whole g schedule .1 (claim-says claims.Legal .0 e)),
-    )
-
-    pub changed-exactly : (first n : ℕ) → mendedSaid (mendAnswer g horizon schedule lent) ≡ say.changed first n
-        ↔ (claimSaid (claimAnswer g horizon schedule) ≡ say.notLegal first) × (n ≡ differing schedule (mendSchedule g horizon schedule lent))
-    unfolding mendedSaid claimSaid
-    changed-exactly first n = (
-      λ e. let w = mend-changed g schedule first n .0 (mend-says (mends.Changed first n) .0 e) in
-          (claim-says (claims.NotLegal first) .1 (w .0), w .1 ∙ ap (differing schedule) (sym schedule-is)),
-      λ w. mend-says (mends.Changed first n) .1 (mend-changed g schedule first n .1 (claim-says (claims.NotLegal first) .0 (w .0), w .1 ∙ ap (differing schedule) schedule-is)),
-    )
-
-    -- a legal claim comes back entry for entry
-    pub whole-keeps : claimSaid (claimAnswer g horizon schedule) ≡ say.legal → mendSchedule g horizon schedule lent ≡ schedule
-    unfolding claimSaid
-    whole-keeps e = schedule-is ∙ mended-whole g schedule (claim-says claims.Legal .0 e)
-
-    -- and of any other, the entries before the first illegal tick, at it, and from it on
-    module _ (first : ℕ) (says : claimSaid (claimAnswer g horizon schedule) ≡ say.notLegal first) where
-      stops : claim g schedule ≡ claims.NotLegal first
-      unfolding claimSaid
-      stops = claim-says (claims.NotLegal first) .0 says
-
-      pub changed-first : ((t : ℕ) → t < first → getD (mendSchedule g horizon schedule lent) t idle ≡ getD schedule t idle)
-          × (getD (mendSchedule g horizon schedule lent) first idle ≡ getD schedule first idle → ⊥)
-          × (0 < differing schedule (mendSchedule g horizon schedule lent))
-      changed-first =
-          rw schedule-is (mended-earlier g schedule (its .few) (its .limit) first stops, mended-differs g schedule (its .few) (its .limit) first stops, mended-counts g schedule (its .few) (its .limit) first stops)
-
-      pub changed-then : (t : ℕ) → first ≤ t → t < horizon
-          → getD (mendSchedule g horizon schedule lent) t idle ≡ mendChoice g (recordBefore g (mendSchedule g horizon schedule lent) t)
-      changed-then t l b = rw schedule-is (mended-then g schedule (its .few) (its .limit) first stops t l (omega (arith, its .input .whole)))
-
--- mending the result again changes nothing
-pub mend-once : (g : Given) (horizon : ℕ) (schedule lent more : List ℕ) → checkMend (g .lists) horizon (length schedule) (length lent) ≡ Done → length more ≡ horizon
-    → (mendedSaid (mendAnswer g horizon (mendSchedule g horizon schedule lent) more) ≡ say.whole)
-    × (mendSchedule g horizon (mendSchedule g horizon schedule lent) more ≡ mendSchedule g horizon schedule lent)
-mend-once g horizon schedule lent more ok room =
-    let made = mendSchedule g horizon schedule lent in
-    let long : length made ≡ length schedule = ap (λ (l : List ℕ). length l) (schedule-is g horizon schedule lent ok) ∙ length-mended g schedule in
-    let again = mend-accepted (g .lists) horizon (length made) (length more) (rw long (accepts (g .lists) horizon (length schedule) (length lent) ok .checked)) room in
-    let legal = mended-said-legal g horizon schedule lent ok in
-    (whole-exactly g horizon made more again .1 legal, whole-keeps g horizon made more again legal)

@@ -1,39 +1,39 @@
 -- Mending underway: what a loop over ticks has chosen, written and compared by the tick it has come to, and what the whole makes of a claim
 -- that was replayed.
-use Prim.Native.Nat.{_+_, _-_, _<_, suc, zero, ℕ, _≤_}
+use Prim.Native.Nat.{_+_, _-_, _<_, ℕ, _≤_}
 use mathlib.Core.Bool.{_&&_, Bool, cond, not, true}
-use mathlib.Core.List.{_++_, append-nil, List, [], _∷_}
+use mathlib.Core.List.{_++_, append-nil, List, []}
 use mathlib.Core.Path.{ap, ap₂, refl, sym, _∙_, _≡_}
-use native.Mathlib.Nat.{not-suc-le-zero}
 use native.Mathlib.Numerals.{add-one}
 use native.Mathlib.Omega.{arith}
 use lib.Dec.{eqb, ltb}
 use lib.ListN.{drop, drop-of-length-le, getD, length, length-drop, set, take}
-use lib.Seq.{getD-set-other, getD-set-same, take-all, take-suc, take-suc-set}
+use lib.Seq.{getD-set-other, getD-set-same, take-all}
 use borrow.Rule.Slice.PartMut.{putMid}
 use Rattle.bits.specs.Below.{count}
-use Rattle.bits.proofs.Below.{count-next, count-nothing, count-same}
-use Rattle.tables.specs.declared.outcome.Outcome.the-variants.{Done}
+use Rattle.bits.proofs.Laws.Below.{count-next, count-nothing, count-same}
+use Rattle.bits.proofs.Laws.Lists.{getD-any}
+use Rattle.tables.specs.declared.answers.Outcome.the-variants.{Done}
 use Rattle.tables.specs.Refusals.{checkLists}
 use Rattle.tables.specs.Tables.{idle, jobCount}
 use Rattle.tables.proofs.Laws.Accepted.{lists-few}
-use Rattle.zsrm.specs.declared.claims.Replayed.{Replayed}
+use Rattle.zsrm.specs.declared.claims.Walked.{Walked}
 use Rattle.zsrm.specs.declared.record.Record.{Record}
 use Rattle.zsrm.specs.declared.tick.View.{View}
 use Rattle.zsrm.specs.declared.tie.Tie.the-variants.{Lowest}
 use Rattle.zsrm.specs.declared.answers.Mended.the-variants.{Whole, Changed}
-use Rattle.zsrm.specs.Code.Claims.{Mendable, ReplayedAs}
+use Rattle.zsrm.specs.Code.Claims.{Mendable, WalkedAs}
 use Rattle.zsrm.specs.Code.View.{chosen, view}
 use Rattle.zsrm.specs.Given.{Given}
-use Rattle.zsrm.specs.Legal.{candidateOrIdle, isLegal, legalLength, schedulingInstant}
+use Rattle.zsrm.specs.Legal.{isLegal, legalLength, schedulingInstant}
 use Rattle.zsrm.specs.Mend.{differing, differs, keepsPrevious, mend, mendChoice, mended}
 use Rattle.zsrm.specs.Run.{entriesBy, recordBefore}
-use Rattle.zsrm.specs.Tick.{advanced}
+use Rattle.zsrm.specs.Tick.{advanced, candidateOrIdle}
 use Rattle.zsrm.proofs.Laws.Choice.{choice-lowest}
 use Rattle.zsrm.proofs.Laws.Going.{Going, entries-none, going-more, going-none, going-writes}
 use Rattle.zsrm.proofs.Laws.Mend.{differing-rest, first-within, mendable-behind, mendable-next}
 use Rattle.zsrm.proofs.Laws.Replay.{legal-may, tick-recordBefore}
-use Rattle.zsrm.proofs.Laws.Step.{our-choice}
+use Rattle.zsrm.proofs.Laws.View.{our-choice}
 
 -- what the code chooses
 module _ (g : Given) where
@@ -45,16 +45,6 @@ module _ (g : Given) where
       → x ≡ cond (keepsPrevious g r) (r .previous) low → x ≡ mendChoice g r
   unfolding mendChoice
   mend-chosen ok r v low x p q e = e ∙ ap (cond (keepsPrevious g r) (r .previous)) (our-choice g ok Lowest r v low p q ∙ choice-lowest g r)
-
--- within a list the default does not matter
-getD-any : (l : List ℕ) (n a b : ℕ) → n < length l → getD l n a ≡ getD l n b
-getD-any [] n a b h = absurd (not-suc-le-zero h)
-getD-any (x ∷ l) zero a b h = refl
-getD-any (x ∷ l) (suc n) a b h = getD-any l n a b (omega arith)
-
--- a list copied entry by entry
-pub copied-more : (from to : List ℕ) (t e : ℕ) → t < length to → t < length from → take t to ≡ take t from → e ≡ getD from t 0 → take (t + 1) (set to t e) ≡ take (t + 1) from
-copied-more from to t e b l p q = rw add-one (take-suc-set to t e b ∙ ap₂ (λ (l : List ℕ) (x : ℕ). l ++ (x ∷ [])) p q ∙ sym (take-suc from t 0 l))
 
 -- mending underway: the entries of t ticks are chosen, written and compared with the claimed ones
 pub record Mending (g : Given) (start r : Record) (claimed into : List ℕ) (changed t : ℕ) : Type 0 where
@@ -109,7 +99,7 @@ module _ (g : Given) (start : Record) (claimed : List ℕ) where
         (w .compared ∙ ap₂ (λ (n : ℕ) (l : List ℕ). count n (differs claimed l)) (all ∙ sym same) is, is)
 
 -- the mended schedule: the claim's legal beginning was copied, and the rest written behind it
-module _ (g : Given) (schedule : List ℕ) (x : Replayed) (p : ReplayedAs g schedule x) where
+module _ (g : Given) (schedule : List ℕ) (x : Walked) (p : WalkedAs g schedule x) where
   pub ticks-within : x .ticks ≤ length schedule
   ticks-within = omega (arith, p .ticks, first-within g schedule)
 
@@ -145,12 +135,13 @@ module _ (g : Given) (schedule : List ℕ) (x : Replayed) (p : ReplayedAs g sche
         let made = ap₂ (entriesBy g (mendChoice g)) (p .here) more in
         let none : drop (length into - x .ticks) (drop (x .ticks) into) ≡ [] = drop-of-length-le (drop (x .ticks) into) {i = length into - x .ticks} (omega (arith, length-drop (x .ticks) into)) in (
           counts ∙ ap₂ differing (rest-is schedule ∙ ap (λ (i : ℕ). drop i schedule) k) made
-              ∙ sym (differing-rest schedule (entriesBy g (mendChoice g) (recordBefore g schedule (legalLength g schedule)) (length schedule - legalLength g schedule)) (legalLength g schedule) (omega (arith, k, ticks-within))),
+              ∙ sym (differing-rest schedule (entriesBy g (mendChoice g) (recordBefore g schedule (legalLength g schedule)) (length schedule - legalLength g schedule))
+              (legalLength g schedule) (omega (arith, k, ticks-within))),
           ap₂ (λ (l m : List ℕ). l ++ m) (front ∙ ap (λ (i : ℕ). take i schedule) k) (ap (λ (l : List ℕ). es ++ l) none ∙ append-nil es ∙ writes ∙ made),
         )
 
 -- what a replay's count answers
-pub mend-answer : (g : Given) (schedule : List ℕ) (x : Replayed) → ReplayedAs g schedule x → (n : ℕ) → n ≡ differing schedule (mended g schedule)
+pub mend-answer : (g : Given) (schedule : List ℕ) (x : Walked) → WalkedAs g schedule x → (n : ℕ) → n ≡ differing schedule (mended g schedule)
     → cond (eqb (x .ticks) (length schedule)) Whole (Changed (x .ticks) n) ≡ mend g schedule
 unfolding mend isLegal
 mend-answer g schedule x p n q = ap₂ (λ (k m : ℕ). cond (eqb k (length schedule)) Whole (Changed k m)) (p .ticks) q

@@ -9,8 +9,8 @@ use lib.Dec.{eqb, ltb}
 use lib.ListN.{length-replicate, replicate}
 use borrow.Author.Tests.{le-ltb, lt-ltb, ltb-false, ltb-true}
 use Rattle.bits.specs.Below.{bit, listFrom}
-use Rattle.bits.proofs.Arrays.{Written, written-all, written-none}
-use Rattle.bits.proofs.Below.{list-same}
+use Rattle.bits.proofs.Laws.Arrays.{Written, written-all, written-none}
+use Rattle.bits.proofs.Laws.Below.{list-same}
 use Rattle.zsrm.specs.declared.next.Ticked.{Ticked}
 use Rattle.zsrm.specs.declared.record.Place.{Place}
 use Rattle.zsrm.specs.declared.record.Record.{Record}
@@ -19,17 +19,17 @@ use Rattle.zsrm.specs.declared.record.Standing.the-variants.{Ended, Fini
 use Rattle.zsrm.specs.declared.tick.View.{View}
 use Rattle.tables.specs.declared.fields.Job.{Job}
 use Rattle.tables.specs.Fields.{jobAt}
-use Rattle.zsrm.specs.Legal.{candidateOrIdle}
 use Rattle.zsrm.specs.Code.Next.{nextAt, nextPlace, nextRecord, nextStanding}
 use Rattle.zsrm.specs.Code.View.{tickedBy, view}
 use Rattle.zsrm.specs.Record.{arrived, arriving, blank, consistent, doneAt, empty, fresh, freshPlace, opening, placeAt, spent, standingAt, suspendedAt, waitedAt}
 use Rattle.zsrm.specs.Given.{Given}
 use Rattle.tables.specs.Tables.{arrival, execution, idle, jobCount}
-use Rattle.zsrm.specs.Tick.{advanced, alive, doneAfter, endedWord, ends, finishes, goesOn, placeAfter, standingAfter, suspended, suspendedAfter, unfinished, waitedAfter, waits}
+use Rattle.zsrm.specs.Tick.{advanced, alive, candidateOrIdle, doneAfter, endedWord, ends, finishes}
+use Rattle.zsrm.specs.Tick.{goesOn, placeAfter, standingAfter, suspended, suspendedAfter, isUnfinished, waitedAfter, waits}
 use Rattle.zsrm.proofs.Laws.Consistent.{beyond-waits, spent-tick}
 use Rattle.zsrm.proofs.Laws.View.{jobWord-bit, ticked, ticked-made}
 use Rattle.zsrm.proofs.Laws.Tick.{none-raised}
-use Rattle.bits.proofs.Bools.{by-cond}
+use Rattle.bits.proofs.Laws.Bools.{by-cond}
 
 -- a record is its tick, its previous entry and its places
 pub same-record : (r s : Record) → r .tick ≡ s .tick → r .previous ≡ s .previous → r .places ≡ s .places → r ≡ s
@@ -55,11 +55,11 @@ fresh-made jobs out j t e w m =
     (written-all empty (freshPlace jobs) (blank .places) (out .places) 64 j w (λ k a b. absurd (omega arith)))
 
 -- the places as the loop has made them so far: those of the jobs below j are the next ones
-abbrev pub Made : List ℕ → Record → Ticked → Record → ℕ → Type 0
-Made jobs r d out j = (out .tick ≡ r .tick + 1) × Written empty (nextAt jobs r d) (r .places) (out .places) 64 j
+abbrev pub MadeUpTo : List ℕ → Record → Ticked → Record → ℕ → Type 0
+MadeUpTo jobs r d out j = (out .tick ≡ r .tick + 1) × Written empty (nextAt jobs r d) (r .places) (out .places) 64 j
 
 -- the place of job j is as it was until it is written
-pub made-held : (jobs : List ℕ) (r : Record) (d : Ticked) (out : Record) (j : ℕ) → Made jobs r d out j → j < 64 → placeAt out j ≡ placeAt r j
+pub made-held : (jobs : List ℕ) (r : Record) (d : Ticked) (out : Record) (j : ℕ) → MadeUpTo jobs r d out j → j < 64 → placeAt out j ≡ placeAt r j
 unfolding placeAt
 made-held jobs r d out j w l = w .1 .each j l ∙ rw (le-ltb j j (omega arith))
 
@@ -70,7 +70,7 @@ unfolding nextAt
 next-at jobs r d j p v x l qp qx qv =
     qv ∙ ap₂ (λ (y : Job) (q : Place). nextPlace (r .tick) d j (y .arrival) (y .execution) q) qx qp ∙ rw (lt-ltb j (jobCount jobs) l)
 
-pub next-made : (jobs : List ℕ) (r : Record) (d : Ticked) (out : Record) (j : ℕ) → Made jobs r d out j → jobCount jobs ≤ j
+pub next-made : (jobs : List ℕ) (r : Record) (d : Ticked) (out : Record) (j : ℕ) → MadeUpTo jobs r d out j → jobCount jobs ≤ j
     → _≡_ {A = Record} (record { tick = out .tick; previous = d .entry; places = out .places }) (nextRecord jobs r d)
 unfolding nextRecord nextAt placeAt
 next-made jobs r d out j w m =
@@ -102,7 +102,7 @@ module _ (g : Given) (r : Record) (e : ℕ) (few : jobCount (g .lists .jobs) ≤
   unfolding placeAfter standingAfter opening arrived alive standingAt doneAt suspendedAt waitedAt
   beyond-next j m l =
       let away = beyond-waits g r sound j m l in
-      let none = none-raised g r e may j l (ap unfinished away) in
+      let none = none-raised g r e may j l (ap isUnfinished away) in
       same-place (placeAt r j) (placeAfter g r e j) (omega (arith, none .done-by)) (omega (arith, none .suspended-by)) (omega (arith, none .waited-by))
       (away ∙ sym (ap (standingAfter g r e j) away ∙ rw (le-ltb j (jobCount (g .lists .jobs)) m)))
 

@@ -8,13 +8,13 @@ use mathlib.Core.Logic.{_↔_, _≢_}
 use native.Mathlib.Omega.{arith}
 use lib.Dec.{eqb}
 use borrow.Author.Tests.{eq-eqb, eqb-false, eqb-true, leb-false, lt-ltb}
-use Rattle.bits.proofs.Below.{getD-list}
+use Rattle.bits.proofs.Laws.Below.{getD-list}
 use Rattle.zsrm.specs.declared.record.Place.{Place}
 use Rattle.zsrm.specs.declared.record.Record.{Record}
 use Rattle.zsrm.specs.Record.{doneAt, empty, fresh, freshPlace, opening, placeAt, standingAt, suspendedAt, waitedAt, arrived, arriving}
 use Rattle.zsrm.specs.Given.{Given}
-use Rattle.zsrm.specs.Tick.{advanced, doneAfter, placeAfter, standingAfter, suspendedAfter, waitedAfter, alive, goesOn, unfinished}
-use Rattle.bits.proofs.Bools.{and-false, by-cond, clash, fails}
+use Rattle.zsrm.specs.Tick.{advanced, doneAfter, placeAfter, standingAfter, suspendedAfter, waitedAfter, alive, goesOn, isUnfinished}
+use Rattle.bits.proofs.Laws.Bools.{and-false, by-cond, clash, never-true}
 use Rattle.bits.proofs.Readings.{and-reads, le-reads, lt-reads}
 use Rattle.tables.specs.Tables.{arrival, execution, idle, jobCount}
 use Rattle.zsrm.specs.declared.record.Standing.{Standing}
@@ -52,7 +52,7 @@ pub alive-unfinished : (r : Record) (j : ℕ) → alive r j ≡ true → standin
 unfolding alive
 alive-unfinished r j = go (standingAt r j)
   where
-    go : (s : Standing) → unfinished s ≡ true → s ≡ Unfinished
+    go : (s : Standing) → isUnfinished s ≡ true → s ≡ Unfinished
     go NotArrived u = clash u refl
     go Unfinished u = refl
     go (Finished f) u = clash u refl
@@ -101,14 +101,14 @@ module _ (jobs : List ℕ) (t j : ℕ) where
   pub away-reads : arrived jobs t j ≡ false ↔ (j < jobCount jobs → t < arrival jobs j)
   unfolding arrived
   away-reads =
-      (λ h l. leb-false _ _ (and-false (lt-ltb _ _ l) h), λ w. fails _ (λ h. let a = arrived-reads .0 h in omega (arith, w (a .0))))
+      (λ h l. leb-false _ _ (and-false (lt-ltb _ _ l) h), λ w. never-true _ (λ h. let a = arrived-reads .0 h in omega (arith, w (a .0))))
 
   -- a place at which nothing has run: the job is finished at its arrival, or unfinished, or there is none yet
-  pub opens : (P : Standing → Type 0) → (j < jobCount jobs → arrival jobs j ≤ t → execution jobs j ≡ 0 → P (Finished (arrival jobs j)))
+  pub opening-cases : (P : Standing → Type 0) → (j < jobCount jobs → arrival jobs j ≤ t → execution jobs j ≡ 0 → P (Finished (arrival jobs j)))
       → (j < jobCount jobs → arrival jobs j ≤ t → execution jobs j ≢ 0 → P Unfinished) → ((j < jobCount jobs → t < arrival jobs j) → P NotArrived)
       → P (opening jobs t j)
   unfolding opening arriving
-  opens P finished running waiting =
+  opening-cases P finished running waiting =
       by-cond P (arrived jobs t j) _ _
       (λ h. let a = arrived-reads .0 h in
       by-cond P (eqb (execution jobs j) 0) _ _ (λ c. finished (a .0) (a .1) (eqb-true _ _ c)) (λ c. running (a .0) (a .1) (eqb-false _ _ c)))
@@ -116,7 +116,7 @@ module _ (jobs : List ℕ) (t j : ℕ) where
 
   -- so it is not ended
   pub opening-unended : (e : ℕ) → opening jobs t j ≡ Ended e → ⊥
-  opening-unended e = opens (λ s. s ≡ Ended e → ⊥) (λ l a c q. clashes (cc)) (λ l a c q. clashes (cc)) (λ w q. clashes (cc))
+  opening-unended e = opening-cases (λ s. s ≡ Ended e → ⊥) (λ l a c q. clashes (cc)) (λ l a c q. clashes (cc)) (λ w q. clashes (cc))
     where
       clashes : _≡_ {A = ℕ} 0 1 → ⊥
       clashes z = omega arith

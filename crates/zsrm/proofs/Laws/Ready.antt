@@ -9,9 +9,9 @@ use lib.Count.{ones}
 use lib.Dec.{eqb}
 use borrow.Author.Tests.{eq-eqb}
 use Rattle.bits.specs.Below.{greatest}
-use Rattle.bits.proofs.Bools.{and-left, and-true, passed, same-test}
-use Rattle.bits.proofs.Most.{Most, greatest-found}
-use Rattle.bits.proofs.Word.{ones-word}
+use Rattle.bits.proofs.Laws.Bools.{and-left, and-true, passed, same-test}
+use Rattle.bits.proofs.Laws.Most.{Most, greatest-found}
+use Rattle.bits.proofs.Laws.Word.{ones-word}
 use Rattle.zsrm.specs.declared.record.Record.{Record}
 use Rattle.zsrm.specs.Given.{Given}
 use Rattle.tables.specs.Tables.{jobCount, jobPriority}

@@ -2,22 +2,25 @@
 -- An invariant that each legal entry keeps holds of every such record.
 use native.Mathlib.Decide.{decLt}
 use Prim.Native.Nat.{_+_, _<_, suc, zero, ℕ, _≤_}
-use mathlib.Core.Bool.{false, true, Bool}
-use mathlib.Core.List.{List, [], _∷_}
+use mathlib.Core.Bool.{false, true, Bool, _||_}
+use mathlib.Core.List.{_++_, List, [], _∷_}
 use mathlib.Core.Logic.{inl, inr, _⊎_}
 use mathlib.Core.Path.{ap, refl, sym, _∙_, _≡_}
 use native.Mathlib.Nat.{not-suc-le-zero}
 use native.Mathlib.Omega.{arith}
 use lib.ListN.{getD, length, length-take, take}
-use lib.Seq.{take-length}
-use Rattle.bits.proofs.Bools.{and-left, either, clash}
+use lib.Seq.{take-length, take-suc}
+use Rattle.bits.proofs.Laws.Bools.{and-left, either, clash, and-true, or-left, or-right}
 use Rattle.zsrm.specs.declared.record.Record.{Record}
-use Rattle.zsrm.specs.Legal.{candidateOrIdle, legalEntry, legalFrom}
+use Rattle.zsrm.specs.Legal.{legalEntry, legalFrom, schedulingInstant}
 use Rattle.zsrm.specs.Record.{fresh}
 use Rattle.zsrm.specs.Run.{replay, replayed, recordAt, recordBefore}
 use Rattle.zsrm.specs.Given.{Given}
 use Rattle.tables.specs.Tables.{idle}
-use Rattle.zsrm.specs.Tick.{advanced}
+use Rattle.zsrm.specs.Tick.{advanced, candidateOrIdle}
+use borrow.Author.Tests.{eq-eqb}
+use lib.Dec.{eqb}
+use Rattle.zsrm.proofs.Laws.Places.{tick-fresh}
 
 -- a legal entry is a candidate, or idle with no candidate
 pub legal-may : (g : Given) (r : Record) (p e : ℕ) → legalEntry g r p e ≡ true → candidateOrIdle g r e ≡ true
@@ -25,6 +28,20 @@ unfolding legalEntry
 legal-may g r p e h = and-left (candidateOrIdle g r e) _ h
 
 module _ (g : Given) where
+  -- an entry that may run, and is the one before again where the tick is no scheduling instant, is legal
+  pub legal-by : (r : Record) (last e : ℕ) → candidateOrIdle g r e ≡ true → (schedulingInstant g r last ≡ false → e ≡ last) → legalEntry g r last e ≡ true
+  unfolding legalEntry
+  legal-by r last e may stays = and-true may (go (either (schedulingInstant g r last)))
+    where
+      go : (schedulingInstant g r last ≡ true) ⊎ (schedulingInstant g r last ≡ false) → (eqb (r .tick) 0 || schedulingInstant g r last || eqb e last) ≡ true
+      go (inl i) = or-left _ (or-right (eqb (r .tick) 0) i)
+      go (inr q) = or-right (eqb (r .tick) 0 || schedulingInstant g r last) (eq-eqb e last (stays q))
+
+  -- at the fresh record it need only be one that may run
+  pub legal-at-fresh : (e : ℕ) → candidateOrIdle g (fresh (g .lists .jobs)) e ≡ true → legalEntry g (fresh (g .lists .jobs)) idle e ≡ true
+  unfolding legalEntry
+  legal-at-fresh e may = and-true may (or-left _ (or-left _ (eq-eqb (fresh (g .lists .jobs) .tick) 0 (tick-fresh (g .lists .jobs)))))
+
   -- every entry is legal
   abbrev pub AllLegal : Record → ℕ → List ℕ → Type 0
   AllLegal r p es = legalFrom g r p es ≡ length es
@@ -107,6 +124,17 @@ module _ (g : Given) where
   unfolding replay advanced
   tick-replay r [] = omega arith
   tick-replay r (e ∷ es) = let ih = tick-replay (advanced g r e) es in omega arith
+
+  -- entries end to end
+  pub replay-append : (r : Record) (xs ys : List ℕ) → replay g r (xs ++ ys) ≡ replay g (replay g r xs) ys
+  unfolding replay
+  replay-append r [] ys = refl
+  replay-append r (x ∷ xs) ys = replay-append (advanced g r x) xs ys
+
+  -- the record before the next tick
+  pub record-more : (es : List ℕ) (t d : ℕ) → t < length es → recordBefore g es (suc t) ≡ advanced g (recordBefore g es t) (getD es t d)
+  unfolding recordBefore recordAt replay
+  record-more es t d b = ap (replay g (fresh (g .lists .jobs))) (take-suc es t d b) ∙ replay-append (fresh (g .lists .jobs)) (take t es) (getD es t d ∷ [])
 
   -- what each legal entry at a tick below the limit keeps holds before each entry of a legal schedule, and after the last
   module _ (limit : ℕ) (P : Record → Type 0)

@@ -12,6 +12,12 @@ use Rattle.zsrm.specs.declared.answers.Verdict.{Verdict}
 use Rattle.zsrm.specs.declared.answers.Witness.{Witness}
 use Rattle.zsrm.specs.declared.record.Standing.{Standing}
 use Rattle.zsrm.specs.Said.{claimSaid, finishedAt, mendedSaid, standingSaid, verdictSaid, witnessSaid}
+use mathlib.Core.Logic.{Iff·trans, _↔_}
+use Rattle.tables.specs.declared.answers.Outcome.{Outcome}
+use Rattle.tables.proofs.Laws.Refusals.{answered}
+use Rattle.tables.specs.Said.{done, outcomeSaid}
+use Rattle.tables.proofs.Laws.Said.{said-done}
+use Rattle.tables.specs.Refusals.{unless}
 use Rattle.zsrm.specs.declared.answers.Claim.the-variants as claims
 use Rattle.zsrm.specs.declared.answers.Mended.the-variants as mends
 use Rattle.zsrm.specs.declared.answers.Verdict.the-variants as verdicts
@@ -29,6 +35,13 @@ module _ {A : Type 0} (refused : ℕ → ℕ → A) (one : ℕ → A) (three : �
 -- what can be read back is told apart
 told : {A : Type 0} (said : A → List ℕ) (read : List ℕ → A) → ((a : A) → read (said a) ≡ a) → (a b : A) → said a ≡ said b → a ≡ b
 told said read h a b e = sym (h a) ∙ ap read e ∙ h b
+
+-- an answer that is no refusal is given exactly where the checks pass and it is the answer
+pub given-exactly : {A : Type 0} (said : A → List ℕ) → ((a b : A) → said a ≡ said b → a ≡ b) → (refusal : ℕ → ℕ → A) (answer a : A)
+    → ((number place : ℕ) → refusal number place ≡ a → ⊥) → (o : Outcome) → said (unless o refusal answer) ≡ said a ↔ (outcomeSaid o ≡ done) × (answer ≡ a)
+given-exactly said alike refusal answer a never o =
+    Iff·trans (alike (unless o refusal answer) a, ap said)
+    (Iff·trans (answered refusal answer a never o) (λ w. (said-done o .1 (w .0), w .1), λ w. (said-done o .0 (w .0), w .1)))
 
 notLegalOr : {A : Type 0} → (ℕ → A) → (ℕ → A) → ℕ → A
 notLegalOr notLegal small x = cond (ltb x 65536) (small x) (notLegal (x - 65536))

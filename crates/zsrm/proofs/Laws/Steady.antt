@@ -5,26 +5,26 @@ use mathlib.Core.Bool.{_&&_, Bool, false, not, true}
 use mathlib.Core.Path.{ap, ap₂, refl, _≡_}
 use native.Mathlib.Omega.{arith}
 use borrow.Author.Tests.{eq-eqb}
-use Rattle.bits.proofs.Below.{least-same, some-false, some-same}
-use Rattle.bits.proofs.Bools.{clash, failed, same-test}
-use Rattle.bits.proofs.Most.{most}
+use Rattle.bits.proofs.Laws.Below.{some-false, some-same}
+use Rattle.bits.proofs.Laws.Bools.{clash, failed, same-test}
+use Rattle.bits.proofs.Laws.Most.{most-there}
 use Rattle.zsrm.specs.declared.record.Record.{Record}
 use Rattle.zsrm.specs.declared.record.Standing.{Standing}
 use Rattle.zsrm.specs.declared.record.Standing.the-variants.{Ended, Finished, NotArrived, Unfinished}
-use Rattle.zsrm.specs.Legal.{finishedAt, schedulingInstant, instantBy}
+use Rattle.zsrm.specs.Legal.{isFinishedAt, schedulingInstant, instantBy}
 use Rattle.zsrm.specs.Record.{consistent, doneAt, standingAt}
 use Rattle.zsrm.specs.Given.{Given}
-use Rattle.tables.specs.Tables.{arrival, idle, jobCount, jobCriticality, zeroSlackInstant}
-use Rattle.zsrm.specs.Tick.{advanced, alive, candidate, eligible, ends, higherPriority, lowest, pastZeroSlack, someJob, standingAfter, unfinished}
+use Rattle.tables.specs.Tables.{arrival, jobCount, jobCriticality, zeroSlackInstant}
+use Rattle.zsrm.specs.Tick.{advanced, alive, candidate, eligible, ends, higherPriority, pastZeroSlack, someJob, standingAfter, isUnfinished}
 use Rattle.zsrm.proofs.Laws.Consistent.{Sound, sound-at}
-use Rattle.zsrm.proofs.Laws.Places.{standing-advanced, opens, standing-alive}
-use Rattle.zsrm.proofs.Laws.Tick.{eligible-unended, top-eligible, goes-on, eligible-exactly, past-exactly}
+use Rattle.zsrm.proofs.Laws.Places.{standing-advanced, opening-cases, standing-alive}
+use Rattle.zsrm.proofs.Laws.Tick.{eligible-unended, top-eligible, goes-on-cases, eligible-exactly, past-exactly}
 
 module _ (g : Given) (r : Record) (e p : ℕ) (few : jobCount (g .lists .jobs) ≤ 64) (sound : consistent g r ≡ true) (still : schedulingInstant g (advanced g r e) p ≡ false) where
   -- the tick after brings nothing for the job j
   record Quiet (j : ℕ) : Type 0 where
     no-arrival : arrival (g .lists .jobs) j ≡ suc (r .tick) → ⊥
-    no-finish : finishedAt (suc (r .tick)) (standingAt (advanced g r e) j) ≡ false
+    no-finish : isFinishedAt (suc (r .tick)) (standingAt (advanced g r e) j) ≡ false
     no-slack : zeroSlackInstant (g .lists) j ≡ suc (r .tick) → ⊥
 
   quiet : (j : ℕ) → j < jobCount (g .lists .jobs) → Quiet j
@@ -38,16 +38,16 @@ module _ (g : Given) (r : Record) (e p : ℕ) (few : jobCount (g .lists .jobs) �
   unfolding alive
   still-alive j l a n =
       let s = standing-alive g r e j (omega arith) a in
-      rw s (goes-on g r e (λ s. finishedAt (suc (r .tick)) s ≡ false → unfinished s ≡ true) j
+      rw s (goes-on-cases g r e (λ s. isFinishedAt (suc (r .tick)) s ≡ false → isUnfinished s ≡ true) j
       (λ q f x. clash (eq-eqb (suc (r .tick)) _ refl) x) (λ x y f. clash y n) (λ x y f. refl) (rw s at (quiet j l .no-finish)))
 
   was-alive : (j : ℕ) → j < jobCount (g .lists .jobs) → alive (advanced g r e) j ≡ true → alive r j ≡ true
   unfolding alive standingAfter
   was-alive j l a = go (standingAt r j) (sound-at g r sound j (omega arith)) (rw (standing-advanced g r e j (omega arith)) at a)
     where
-      go : (s : Standing) → Sound g (r .tick) j (doneAt r j) s → unfinished (standingAfter g r e j s) ≡ true → unfinished s ≡ true
+      go : (s : Standing) → Sound g (r .tick) j (doneAt r j) s → isUnfinished (standingAfter g r e j s) ≡ true → isUnfinished s ≡ true
       go NotArrived w =
-          opens (g .lists .jobs) (suc (r .tick)) j (λ s. unfinished s ≡ true → false ≡ true) (λ h b c u. u)
+          opening-cases (g .lists .jobs) (suc (r .tick)) j (λ s. isUnfinished s ≡ true → false ≡ true) (λ h b c u. u)
           (λ h b c u. absurd (quiet j l .no-arrival (omega (arith, w .away h)))) (λ x u. u)
       go Unfinished w = λ u. refl
       go (Finished x) w = λ u. u
@@ -77,7 +77,7 @@ module _ (g : Given) (r : Record) (e p : ℕ) (few : jobCount (g .lists .jobs) �
       eligible-exactly g r j .1 (
         was-alive j l (a .0),
         λ i m p.
-            let w = most (pastZeroSlack g r) (jobCriticality (g .lists)) (jobCount (g .lists .jobs)) i m p in
+            let w = most-there (pastZeroSlack g r) (jobCriticality (g .lists)) (jobCount (g .lists .jobs)) i m p in
             let x = eligible-unended g r e (w .0) (top-eligible g r (w .0) (w .1)) in
             omega (arith, w .1 .tops i m p, a .1 (w .0) (w .1 .below) (past-after (w .0) (w .1 .below) (w .1 .passes) x)),
       )
@@ -91,7 +91,3 @@ module _ (g : Given) (r : Record) (e p : ℕ) (few : jobCount (g .lists .jobs) �
       ap₂ (λ (a b : Bool). a && not b) (eligible-same j l)
       (some-same (λ i. eligible g (advanced g r e) i && higherPriority g i j) (λ i. eligible g r i && higherPriority g i j) (jobCount (g .lists .jobs))
       (λ i m. ap (λ (b : Bool). b && higherPriority g i j) (eligible-same i m)))
-
-  pub lowest-same : lowest g (advanced g r e) ≡ lowest g r
-  unfolding lowest
-  lowest-same = least-same (candidate g (advanced g r e)) (candidate g r) (jobCount (g .lists .jobs)) idle candidate-same

@@ -8,14 +8,14 @@ use native.Mathlib.Decide.{ℕ-discrete}
 use native.Mathlib.Omega.{arith}
 use lib.Dec.{eqb, ltb}
 use borrow.Author.Tests.{not-true, eq-eqb, eqb-false, ne-eqb}
-use Rattle.bits.proofs.Below.{some-found, some-true}
-use Rattle.bits.proofs.Bools.{and-false, and-false-right, and-left, and-right, and-true, clash, either, fails, not-of, passed, by-cond}
-use Rattle.bits.proofs.Most.{Most, most}
+use Rattle.bits.proofs.Laws.Below.{least-found, least-none, some-found, some-true}
+use Rattle.bits.proofs.Laws.Bools.{and-false, and-false-right, and-left, and-right, and-true, clash, either, never-true, not-of, passed, by-cond}
+use Rattle.bits.proofs.Laws.Most.{Most, most-there}
 use Rattle.zsrm.specs.declared.record.Record.{Record}
-use Rattle.zsrm.specs.Legal.{candidateOrIdle}
 use Rattle.zsrm.specs.Given.{Given, isSE}
 use Rattle.tables.specs.Tables.{idle, jobCount, jobCriticality, jobPriority, zeroSlackInstant, execution}
-use Rattle.zsrm.specs.Tick.{alive, candidate, eligible, ends, higherPriority, moreCritical, over, pastZeroSlack, someJob, suspended, suspendedAfter, waitedAfter, waits, doneAfter, finishes, goesOn}
+use Rattle.zsrm.specs.Tick.{alive, candidate, eligible, ends, higherPriority, moreCritical, over, lowest, pastZeroSlack}
+use Rattle.zsrm.specs.Tick.{someJob, suspended, suspendedAfter, waitedAfter, waits, doneAfter, finishes, goesOn, candidateOrIdle}
 use Rattle.bits.proofs.Readings.{and-reads, eq-reads, lt-reads, not-reads, or-reads, and-fails, lt-fails, none-reads, some-reads, le-reads}
 use Rattle.zsrm.specs.Record.{doneAt, suspendedAt, waitedAt}
 use Rattle.zsrm.specs.declared.record.Standing.{Standing}
@@ -67,14 +67,35 @@ module _ (g : Given) (r : Record) where
   pub some-candidate : (k : ℕ) → k < jobCount (g .lists .jobs) → eligible g r k ≡ true → someJob (g .lists .jobs) (candidate g r) ≡ true
   unfolding someJob
   some-candidate k l h =
-      let w = most (eligible g r) (jobPriority (g .lists)) (jobCount (g .lists .jobs)) k l h in
+      let w = most-there (eligible g r) (jobPriority (g .lists)) (jobCount (g .lists .jobs)) k l h in
       some-true (candidate g r) (jobCount (g .lists .jobs)) (w .0) (w .1 .below) (candidate-exactly (w .0) .1 (w .1 .passes, w .1 .tops))
 
   -- the entry of a tick is a candidate, or idle with none
+  pub runs-exactly : (e : ℕ) → candidateOrIdle g r e ≡ true
+      ↔ ((e < jobCount (g .lists .jobs)) × (candidate g r e ≡ true)) ⊎ ((e ≡ idle) × (someJob (g .lists .jobs) (candidate g r) ≡ false))
+  unfolding candidateOrIdle
+  runs-exactly e = or-reads (and-reads (lt-reads _ _) Iff·rfl) (and-reads (eq-reads _ _) (not-reads _))
+
   pub runs-or-idle : (e : ℕ) → candidateOrIdle g r e ≡ true
       → ((e < jobCount (g .lists .jobs)) × (candidate g r e ≡ true)) ⊎ ((e ≡ idle) × (someJob (g .lists .jobs) (candidate g r) ≡ false))
-  unfolding candidateOrIdle
-  runs-or-idle e = or-reads (and-reads (lt-reads _ _) Iff·rfl) (and-reads (eq-reads _ _) (not-reads _)) .0
+  runs-or-idle e = runs-exactly e .0
+
+  -- the lowest candidate, or idle where there is none
+  pub lowest-may : candidateOrIdle g r (lowest g r) ≡ true
+  unfolding lowest someJob
+  lowest-may = runs-exactly (lowest g r) .1 (⊎-elim found none (either (some n (candidate g r))))
+    where
+      n : ℕ
+      n = jobCount (g .lists .jobs)
+
+      Way : Type 0
+      Way = ((lowest g r < n) × (candidate g r (lowest g r) ≡ true)) ⊎ ((lowest g r ≡ idle) × (some n (candidate g r) ≡ false))
+
+      found : some n (candidate g r) ≡ true → Way
+      found s = inl (least-found (candidate g r) n idle s)
+
+      none : some n (candidate g r) ≡ false → Way
+      none s = inr (least-none (candidate g r) n idle s, s)
 
   -- where a job is past zero slack, the entry of a tick is a job, alive and no less critical
   pub record Serves (j e : ℕ) : Type 0 where
@@ -92,7 +113,7 @@ module _ (g : Given) (r : Record) where
 
       none : (e ≡ idle) × (someJob (g .lists .jobs) (candidate g r) ≡ false) → Serves j e
       none c =
-          let w = most (pastZeroSlack g r) (jobCriticality (g .lists)) (jobCount (g .lists .jobs)) j l q in
+          let w = most-there (pastZeroSlack g r) (jobCriticality (g .lists)) (jobCount (g .lists .jobs)) j l q in
           clash (some-candidate (w .0) (w .1 .below) (top-eligible (w .0) (w .1))) (c .1)
 
   -- the job that runs is eligible
@@ -131,12 +152,12 @@ module _ (g : Given) (r : Record) (e : ℕ) where
   unfolding finishes
   finishing j = and-reads (eq-reads e j) (eq-reads _ _)
 
-  pub goes-on : (P : Standing → Type 0) (j : ℕ) → (e ≡ j → doneAfter g r e j ≡ execution (g .lists .jobs) j → P (Finished (suc (r .tick))))
+  pub goes-on-cases : (P : Standing → Type 0) (j : ℕ) → (e ≡ j → doneAfter g r e j ≡ execution (g .lists .jobs) j → P (Finished (suc (r .tick))))
       → (finishes g r e j ≡ false → ends g r e j ≡ true → P (Ended (r .tick)))
       → (finishes g r e j ≡ false → ends g r e j ≡ false → P Unfinished)
       → P (goesOn g r e j)
   unfolding goesOn
-  goes-on P j finished ended neither =
+  goes-on-cases P j finished ended neither =
       by-cond P (finishes g r e j) _ _ (λ x. let w = finishing j .0 x in finished (w .0) (w .1))
       (λ x. by-cond P (ends g r e j) _ _ (ended x) (neither x))
 
@@ -158,7 +179,7 @@ module _ (g : Given) (r : Record) (e : ℕ) where
   -- no eligible job is ended in its tick
   pub eligible-unended : (j : ℕ) → eligible g r j ≡ true → ends g r e j ≡ false
   eligible-unended j h =
-      fails (ends g r e j) (λ x. let w = ends-by j x in omega (arith, w .1 .more, eligible-exactly g r j .0 h .1 (w .0) (w .1 .job) (w .1 .past)))
+      never-true (ends g r e j) (λ x. let w = ends-by j x in omega (arith, w .1 .more, eligible-exactly g r j .0 h .1 (w .0) (w .1 .job) (w .1 .past)))
 
   -- the job that is ended is suspended in that tick: what is over is past zero slack
   pub ended-suspended : (j : ℕ) → ends g r e j ≡ true → suspended g r j ≡ true
@@ -207,8 +228,8 @@ module _ (g : Given) (r : Record) (e : ℕ) where
     one-raised k a = go (ℕ-discrete e j) (either (suspended g r j))
       where
         still : (eligible g r j ≡ false) ⊎ (e ≡ j) → waits g r e j ≡ false
-        still (inl h) = fails _ (λ w. clash (waiting j .0 w .0) h)
-        still (inr q) = fails _ (λ w. waiting j .0 w .2 q)
+        still (inl h) = never-true _ (λ w. clash (waiting j .0 w .0) h)
+        still (inr q) = never-true _ (λ w. waiting j .0 w .2 q)
 
         -- where a job is eligible, the entry is a job
         runs : eligible g r j ≡ true → e < jobCount (g .lists .jobs)
@@ -226,4 +247,4 @@ module _ (g : Given) (r : Record) (e : ℕ) where
     pub none-raised : alive r j ≡ false → Raised j 0 0 0
     none-raised a =
         raised j false false false (ne-eqb e j (λ q. clash (eligible-alive g r j (runs-eligible g r e j may l q)) a))
-        (fails _ (λ s. clash (suspended-exactly g r j .0 s .0) a)) (fails _ (λ w. clash (eligible-alive g r j (waiting j .0 w .0)) a))
+        (never-true _ (λ s. clash (suspended-exactly g r j .0 s .0) a)) (never-true _ (λ w. clash (eligible-alive g r j (waiting j .0 w .0)) a))

@@ -12,29 +12,28 @@ use native.Mathlib.Omega.{arith}
 use lib.Dec.{ltb}
 use lib.ListN.{length}
 use borrow.Author.Tests.{lt-ltb, ltb-false, ltb-true}
-use Rattle.bits.proofs.Below.{least-is, none-passes, some-found, some-true}
-use Rattle.bits.proofs.Bools.{and-false, and-left, and-right, and-true, clash, either, fails, passed}
+use Rattle.bits.proofs.Laws.Below.{least-is, none-passes, some-found, some-true}
+use Rattle.bits.proofs.Laws.Bools.{and-false, and-left, and-right, and-true, clash, either, never-true, passed}
 use Rattle.bits.proofs.Readings.{least-reads}
-use Rattle.tables.specs.declared.outcome.Outcome.{Outcome}
-use Rattle.tables.specs.declared.outcome.Outcome.the-variants.{Done, Refused}
-use Rattle.tables.specs.Refusals.{before, check5, check6, check7, check8, checkJobs, checkLists, unless}
+use Rattle.tables.specs.declared.answers.Outcome.{Outcome}
+use Rattle.tables.specs.declared.answers.Outcome.the-variants.{Done, Refused}
+use Rattle.tables.specs.Refusals.{before, check5, check6, check7, check8, checkJobs, checkLists, unless, checkSchedule}
 use Rattle.tables.specs.Tables.{arrival, idle, jobCount, jobCriticality}
-use Rattle.tables.proofs.Laws.Accepted.{lists-few, lists-jobs}
+use Rattle.tables.proofs.Laws.Accepted.{lists-few, lists-jobs, accepted}
 use Rattle.tables.proofs.Laws.Refusals.{ascending-at, before-first, before-second, refuse-fine}
 use Rattle.zsrm.specs.declared.record.Record.{Record}
 use Rattle.zsrm.specs.declared.record.Standing.{Standing}
 use Rattle.zsrm.specs.declared.record.Standing.the-variants.{Ended, Finished, NotArrived, Unfinished}
 use Rattle.zsrm.specs.declared.tie.Tie.the-variants.{Lowest, Stay}
-use Rattle.zsrm.specs.Answers.{checkSchedule, ran, runAnswer, runSchedule}
+use Rattle.zsrm.specs.Answers.{ran, runAnswer, runSchedule}
 use Rattle.zsrm.specs.Given.{Given}
 use Rattle.zsrm.specs.Record.{consistent, doneAt, fresh, standingAt}
 use Rattle.zsrm.specs.Run.{entriesBy, finalBy, replay, runEntries, runRecord}
-use Rattle.zsrm.specs.Tick.{advanced, alive, candidate, choice, eligible, ends, keeps, lowest, moreCritical, over, pastZeroSlack, someJob, standingAfter, unfinished}
-use Rattle.zsrm.proofs.Laws.Answers.{accepted}
-use Rattle.zsrm.proofs.Laws.Choice.{choice-else, choice-kept, choice-lowest, choice-may, keeps-reads}
+use Rattle.zsrm.specs.Tick.{advanced, alive, candidate, choice, eligible, ends, keeps, lowest, moreCritical, over, pastZeroSlack, someJob, standingAfter, isUnfinished}
+use Rattle.zsrm.proofs.Laws.Choice.{choice-not-kept, choice-kept, choice-lowest, choice-may, keeps-reads}
 use Rattle.zsrm.proofs.Laws.Consistent.{Sound, advanced-consistent, fresh-consistent, sound-at}
 use Rattle.zsrm.proofs.Laws.Places.{alive-unfinished, previous-advanced, previous-fresh, standing-advanced, standing-alive, tick-advanced, tick-fresh}
-use Rattle.zsrm.proofs.Laws.Tick.{candidate-eligible, candidate-exactly, eligible-alive, eligible-exactly, goes-on, past-exactly}
+use Rattle.zsrm.proofs.Laws.Tick.{candidate-eligible, candidate-exactly, eligible-alive, eligible-exactly, goes-on-cases, past-exactly}
 
 -- accepted jobs stand in order of arrival, also those that are not neighbours
 module _ (tasks jobs : List ℕ) (ok : checkJobs tasks jobs ≡ Done) where
@@ -67,7 +66,7 @@ module _ (g : Given) (ok : checkLists (g .lists) ≡ Done) (r : Record) (sound :
   unfolding alive standingAfter
   was-alive j l here a = go (standingAt r j) (sound-at g r sound j (small j l)) (rw (standing-advanced g r e j (small j l)) at a)
     where
-      go : (s : Standing) → Sound g (r .tick) j (doneAt r j) s → unfinished (standingAfter g r e j s) ≡ true → unfinished s ≡ true
+      go : (s : Standing) → Sound g (r .tick) j (doneAt r j) s → isUnfinished (standingAfter g r e j s) ≡ true → isUnfinished s ≡ true
       go NotArrived w u = absurd (omega (arith, w .away l))
       go Unfinished w u = refl
       go (Finished f) w u = u
@@ -77,12 +76,12 @@ module _ (g : Given) (ok : checkLists (g .lists) ≡ Done) (r : Record) (sound :
   still-alive : (j : ℕ) → j < jobCount (g .lists .jobs) → e ≢ j → alive r j ≡ true → ends g r e j ≡ false → alive (advanced g r e) j ≡ true
   unfolding alive
   still-alive j l n a q =
-      rw (standing-alive g r e j (small j l) a) (goes-on g r e (λ s. unfinished s ≡ true) j (λ p f. absurd (n p)) (λ x y. clash y q) (λ x y. refl))
+      rw (standing-alive g r e j (small j l) a) (goes-on-cases g r e (λ s. isUnfinished s ≡ true) j (λ p f. absurd (n p)) (λ x y. clash y q) (λ x y. refl))
 
   not-ended : (j : ℕ) → j < jobCount (g .lists .jobs) → e ≢ j → alive r j ≡ true → alive (advanced g r e) j ≡ true → ends g r e j ≡ false
   unfolding alive
   not-ended j l n a b =
-      goes-on g r e (λ s. unfinished s ≡ true → ends g r e j ≡ false) j (λ p f u. absurd (n p)) (λ x y u. clash u refl) (λ x y u. y)
+      goes-on-cases g r e (λ s. isUnfinished s ≡ true → ends g r e j ≡ false) j (λ p f u. absurd (n p)) (λ x y u. clash u refl) (λ x y u. y)
       (rw (standing-alive g r e j (small j l) a) at b)
 
   past-after : (j : ℕ) → pastZeroSlack g r j ≡ true → alive (advanced g r e) j ≡ true → pastZeroSlack g (advanced g r e) j ≡ true
@@ -127,7 +126,7 @@ module _ (g : Given) (ok : checkLists (g .lists) ≡ Done) (r : Record) (sound :
         go (yes q) x = lasts (ap (alive (advanced g r e)) (sym q) ∙ eligible-alive g (advanced g r e) e e-after)
         go (no n) (inl q) =
             ltb-false (jobCriticality (g .lists) k) (jobCriticality (g .lists) i)
-            (fails _ (λ t. clash (ends-too k i q (ltb-true (jobCriticality (g .lists) k) (jobCriticality (g .lists) i) t) k-alive)
+            (never-true _ (λ t. clash (ends-too k i q (ltb-true (jobCriticality (g .lists) k) (jobCriticality (g .lists) i) t) k-alive)
             (not-ended k lk (λ z. omega arith) k-alive (eligible-alive g (advanced g r e) k k-after))))
         go (no n) (inr q) = lasts (still-alive i m n (past-exactly g r i .0 h .0) q)
 
@@ -144,7 +143,7 @@ module _ (g : Given) (ok : checkLists (g .lists) ≡ Done) (r : Record) (sound :
   settled ran = go (either (keeps g Stay (advanced g r e)))
     where
       go : (keeps g Stay (advanced g r e) ≡ true) ⊎ (keeps g Stay (advanced g r e) ≡ false) → choice g Stay (advanced g r e) ≡ choice g Lowest (advanced g r e)
-      go (inr k) = choice-else g Stay (advanced g r e) k ∙ sym (choice-lowest g (advanced g r e))
+      go (inr k) = choice-not-kept g Stay (advanced g r e) k ∙ sym (choice-lowest g (advanced g r e))
       go (inl k) =
           let w = keeps-reads g Stay (advanced g r e) .0 k in
           let p = previous-advanced g r e in
@@ -154,7 +153,7 @@ module _ (g : Given) (ok : checkLists (g .lists) ≡ Done) (r : Record) (sound :
           choice-kept g (advanced g r e) (w .1) (w .2) ∙ p
           ∙ sym (choice-lowest g (advanced g r e)
           ∙ least-is (candidate g (advanced g r e)) (jobCount (g .lists .jobs)) idle e l
-          (none-passes (candidate g (advanced g r e)) e (λ j b. fails _ (λ t. clash (k-now j b l (low .0) c t) (low .1 j b)))) c)
+          (none-passes (candidate g (advanced g r e)) e (λ j b. never-true _ (λ t. clash (k-now j b l (low .0) c t) (low .1 j b)))) c)
 
 module _ (g : Given) (ok : checkLists (g .lists) ≡ Done) where
   ties-from : (h : ℕ) (r : Record) → r .tick + h ≤ 16384 → consistent g r ≡ true → choice g Stay r ≡ choice g Lowest r
@@ -171,8 +170,8 @@ module _ (g : Given) (ok : checkLists (g .lists) ≡ Done) where
   -- the fresh record's previous entry is no job
   begins : choice g Stay (fresh (g .lists .jobs)) ≡ choice g Lowest (fresh (g .lists .jobs))
   begins =
-      choice-else g Stay (fresh (g .lists .jobs))
-      (fails _ (λ k. omega (arith, keeps-reads g Stay (fresh (g .lists .jobs)) .0 k .1, previous-fresh (g .lists .jobs), lists-few (g .lists) ok)))
+      choice-not-kept g Stay (fresh (g .lists .jobs))
+      (never-true _ (λ k. omega (arith, keeps-reads g Stay (fresh (g .lists .jobs)) .0 k .1, previous-fresh (g .lists .jobs), lists-few (g .lists) ok)))
       ∙ sym (choice-lowest g (fresh (g .lists .jobs)))
 
   entries-agree : (h : ℕ) → h ≤ 16384 → entriesBy g (choice g Stay) (fresh (g .lists .jobs)) h ≡ entriesBy g (choice g Lowest) (fresh (g .lists .jobs)) h

@@ -9,24 +9,24 @@ use native.Mathlib.Decide.{ℕ-discrete}
 use native.Mathlib.Omega.{arith}
 use lib.ListN.{length}
 use lib.Seq.{take-length}
-use Rattle.bits.proofs.Bools.{clash, fails}
-use Rattle.tables.specs.declared.outcome.Outcome.the-variants.{Done}
+use Rattle.bits.proofs.Laws.Bools.{clash, never-true}
+use Rattle.tables.specs.declared.answers.Outcome.the-variants.{Done}
 use Rattle.zsrm.specs.declared.record.Record.{Record}
 use Rattle.zsrm.specs.declared.record.Standing.{Standing}
 use Rattle.zsrm.specs.declared.record.Standing.the-variants.{Ended, Finished, NotArrived, Unfinished}
-use Rattle.zsrm.specs.Legal.{candidateOrIdle}
 use Rattle.zsrm.specs.Record.{consistent, doneAt, fresh, opening, standingAt, suspendedAt}
 use Rattle.tables.specs.Refusals.{checkJobs, checkTasks}
 use Rattle.zsrm.specs.Run.{replay, replayed, recordAt, recordBefore}
 use Rattle.zsrm.specs.Given.{Given}
 use Rattle.tables.specs.Tables.{arrival, criticality, deadline, deadlineInstant, idle, jobCount, jobCriticality, overload, period, taskOf, offset, zeroSlackInstant}
-use Rattle.zsrm.specs.Tick.{advanced, alive, doneAfter, standingAfter, suspended, unfinished}
+use Rattle.zsrm.specs.Tick.{advanced, alive, candidateOrIdle, doneAfter, standingAfter, suspended, isUnfinished}
 use Rattle.zsrm.specs.Topmost.{Topmost, assured}
-use Rattle.tables.proofs.Laws.Accepted.{apart, few-jobs, job, task}
+use Rattle.tables.proofs.Laws.Accepted.{apart, few-jobs, accepted-job, accepted-task}
 use Rattle.zsrm.proofs.Laws.Consistent.{Sound, advanced-consistent, fresh-consistent, sound-at}
-use Rattle.zsrm.proofs.Laws.Places.{done-advanced, done-fresh, standing-advanced, standing-fresh, suspended-advanced, suspended-fresh, tick-advanced, tick-fresh, alive-unfinished, opens}
+use Rattle.zsrm.proofs.Laws.Places.{done-advanced, done-fresh, standing-advanced, standing-fresh, suspended-advanced}
+use Rattle.zsrm.proofs.Laws.Places.{suspended-fresh, tick-advanced, tick-fresh, alive-unfinished, opening-cases}
 use Rattle.zsrm.proofs.Laws.Replay.{kept-at, legal-may, tick-replay, AllLegal}
-use Rattle.zsrm.proofs.Laws.Tick.{dispatch-serves, done-idle, done-ran, ended-suspended, goes-on, past-exactly, suspended-exactly, suspended-same}
+use Rattle.zsrm.proofs.Laws.Tick.{dispatch-serves, done-idle, done-ran, ended-suspended, goes-on-cases, past-exactly, suspended-exactly, suspended-same}
 use Rattle.zsrm.proofs.Readings.{Within}
 
 -- on its way to that instant, by its standing at the tick t
@@ -40,14 +40,14 @@ module _ (g : Given) (t j done : ℕ) where
 -- a job that has just arrived, or has yet to, is on time
 opening-on-time : (g : Given) (t j done : ℕ) → t ≤ arrival (g .lists .jobs) j → OnTime g t j done (opening (g .lists .jobs) t j)
 unfolding assured zeroSlackInstant
-opening-on-time g t j done h = opens (g .lists .jobs) t j (OnTime g t j done) (λ l a c. omega arith) (λ l a c. omega arith) (λ w. tt)
+opening-on-time g t j done h = opening-cases (g .lists .jobs) t j (OnTime g t j done) (λ l a c. omega arith) (λ l a c. omega arith) (λ w. tt)
 
 -- what is assured lies within the deadline
 pub assured-in-time : (g : Given) (k : ℕ) → checkJobs (g .lists .tasks) (g .lists .jobs) ≡ Done → Topmost (g .lists .tasks) k → (j : ℕ) → j < jobCount (g .lists .jobs) → taskOf (g .lists .jobs) j ≡ k
     → assured g j ≤ deadlineInstant (g .lists) j
 unfolding assured deadlineInstant zeroSlackInstant
 assured-in-time g k okJobs top j l its =
-    let c = job (g .lists .tasks) (g .lists .jobs) okJobs j l .within in
+    let c = accepted-job (g .lists .tasks) (g .lists .jobs) okJobs j l .within in
     let fits = subst (λ (x : ℕ). offset (g .lists .tasks) x + overload (g .lists .tasks) x ≤ deadline (g .lists .tasks) x) (sym its) (top .fits) in
     omega arith
 
@@ -69,7 +69,7 @@ module _ (g : Given) (k : ℕ) (okTasks : checkTasks (g .lists .tasks) ≡ Done)
       go : Dec (taskOf (g .lists .jobs) i ≡ k) → Own i × (jobCriticality (g .lists) i ≡ jobCriticality (g .lists) j)
       go (yes q) = (record { job = l; its = q }, ap (criticality (g .lists .tasks)) (q ∙ sym (o .its)))
       go (no q) =
-          let less : jobCriticality (g .lists) i < jobCriticality (g .lists) j = rw (o .its) (top .above _ (job (g .lists .tasks) (g .lists .jobs) okJobs i l .known) q) in
+          let less : jobCriticality (g .lists) i < jobCriticality (g .lists) j = rw (o .its) (top .above _ (accepted-job (g .lists .tasks) (g .lists .jobs) okJobs i l .known) q) in
           absurd (omega arith)
 
   none-more : (i j : ℕ) → i < jobCount (g .lists .jobs) → Own j → jobCriticality (g .lists) j < jobCriticality (g .lists) i → ⊥
@@ -86,14 +86,14 @@ module _ (g : Given) (k : ℕ) (okTasks : checkTasks (g .lists .tasks) ≡ Done)
   -- an own job is never suspended, and so never ended
   never-suspended : (r : Record) (j : ℕ) → Own j → suspended g r j ≡ false
   never-suspended r j o =
-      fails _ (λ s. let w = suspended-exactly g r j .0 s .1 in none-more (w .0) j (w .1) o (w .2 .1))
+      never-true _ (λ s. let w = suspended-exactly g r j .0 s .1 in none-more (w .0) j (w .1) o (w .2 .1))
 
   -- the invariant: consistent, and every own job on time
-  pub record Good (r : Record) : Type 0 where
+  pub record AllOnTime (r : Record) : Type 0 where
     pub sound : consistent g r ≡ true
     pub timely : (j : ℕ) → Own j → OnTime g (r .tick) j (doneAt r j) (standingAt r j)
 
-  module _ (r : Record) (good : Good r) where
+  module _ (r : Record) (good : AllOnTime r) where
     -- an own job that is alive: the tick lies before arrival + T
     record Current (j : ℕ) : Type 0 where
       own : Own j
@@ -106,7 +106,7 @@ module _ (g : Given) (k : ℕ) (okTasks : checkTasks (g .lists .tasks) ≡ Done)
         let w = rw (alive-unfinished r j a) at (sound-at g r (good .sound) j (small j o)) in
         let t = rw (alive-unfinished r j a) at (good .timely j o) in
         let d = rw (o .its) at (assured-in-time g k okJobs top j (o .job) (o .its)) in
-        let p = task (g .lists .tasks) okTasks k (top .known) in
+        let p = accepted-task (g .lists .tasks) okTasks k (top .known) in
         record { own = o; since = omega arith; until = omega arith }
 
     -- two own jobs that are alive are one
@@ -129,25 +129,25 @@ module _ (g : Given) (k : ℕ) (okTasks : checkTasks (g .lists .tasks) ≡ Done)
       unfolding standingAfter assured alive
       stays NotArrived q w t = opening-on-time g (suc (r .tick)) j (doneAfter g r e j) (w .away (o .job))
       stays Unfinished q w t =
-          goes-on g r e (OnTime g (suc (r .tick)) j (doneAfter g r e j)) j (λ p f. omega (arith, done-ran g r e j p)) (λ x y. clash (ended-suspended g r e j y) (never-suspended r j o))
+          goes-on-cases g r e (OnTime g (suc (r .tick)) j (doneAfter g r e j)) j (λ p f. omega (arith, done-ran g r e j p)) (λ x y. clash (ended-suspended g r e j y) (never-suspended r j o))
           (λ x y. go (ℕ-discrete e j))
         where
           go : Dec (e ≡ j) → suc (r .tick) ≤ zeroSlackInstant (g .lists) j + doneAfter g r e j
           go (yes p) = omega (arith, t, done-ran g r e j p)
           go (no p) =
-              let n : r .tick ≢ zeroSlackInstant (g .lists) j + doneAt r j = λ z. p (runs-now (ap unfinished q) z) in
+              let n : r .tick ≢ zeroSlackInstant (g .lists) j + doneAt r j = λ z. p (runs-now (ap isUnfinished q) z) in
               omega (arith, t, done-idle g r e j p)
       stays (Finished f) q w t = t
       stays (Ended x) q w t = t
 
-  fresh-good : Good (fresh (g .lists .jobs))
+  fresh-good : AllOnTime (fresh (g .lists .jobs))
   fresh-good =
       record {
         sound = fresh-consistent g;
         timely = λ j o. let l = small j o in rw (done-fresh, standing-fresh, tick-fresh) (opening-on-time g 0 j 0 (omega arith));
       }
 
-  advanced-good : (r : Record) (e : ℕ) → r .tick < 16384 → candidateOrIdle g r e ≡ true → Good r → Good (advanced g r e)
+  advanced-good : (r : Record) (e : ℕ) → r .tick < 16384 → candidateOrIdle g r e ≡ true → AllOnTime r → AllOnTime (advanced g r e)
   advanced-good r e b may h =
       record {
         sound = advanced-consistent g r e b may (h .sound);
@@ -157,7 +157,7 @@ module _ (g : Given) (k : ℕ) (okTasks : checkTasks (g .lists .tasks) ≡ Done)
       }
 
   -- a good record whose tick has reached the instant: the job is finished by then
-  finished-by : (r : Record) → Good r → (j : ℕ) → Own j → assured g j ≤ r .tick → (f : ℕ) × (standingAt r j ≡ Finished f) × (f ≤ assured g j)
+  finished-by : (r : Record) → AllOnTime r → (j : ℕ) → Own j → assured g j ≤ r .tick → (f : ℕ) × (standingAt r j ≡ Finished f) × (f ≤ assured g j)
   unfolding assured zeroSlackInstant
   finished-by r h j o l = go (standingAt r j) refl (sound-at g r (h .sound) j (small j o)) (h .timely j o)
     where
@@ -173,9 +173,9 @@ module _ (g : Given) (k : ℕ) (okTasks : checkTasks (g .lists .tasks) ≡ Done)
       → (f : ℕ) × (standingAt (replayed g es) j ≡ Finished f) × (f ≤ assured g j)
   unfolding replayed recordAt
   topmost-finished es b c j o l =
-      let end : Good (replay g (fresh (g .lists .jobs)) es) =
+      let end : AllOnTime (replay g (fresh (g .lists .jobs)) es) =
       rw take-length at
-      (kept-at g 16384 Good (λ r p e u v w. advanced-good r e u (legal-may g r p e v) w) (fresh (g .lists .jobs)) idle es
+      (kept-at g 16384 AllOnTime (λ r p e u v w. advanced-good r e u (legal-may g r p e v) w) (fresh (g .lists .jobs)) idle es
       (rw tick-fresh (omega arith)) c fresh-good (length es)) in
       finished-by (replay g (fresh (g .lists .jobs)) es) end j o (omega (arith, tick-replay g (fresh (g .lists .jobs)) es))
 

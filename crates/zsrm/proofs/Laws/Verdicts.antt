@@ -1,48 +1,45 @@
--- Verdicts and witnesses as the code comes to them: what the checks say of the job named, what a replay says of a witness, all verdicts at
--- once; and when a job that is alive finishes.
-use Prim.Native.Nat.{_+_, _<_, suc, ℕ, _≤_}
-use mathlib.Core.Bool.{Bool, false, true, not}
+-- Laws of verdicts: what the checks say of the job named, what is judged, and all verdicts at once; then two things that follow.
+-- A task's open jobs are its last ones: the deadline of an open job lies ahead of the record's tick; D ≤ T, and two jobs of a task lie at
+-- least T apart, so a later job of the task arrives at that deadline or after it: at the tick it has not arrived.
+-- A verdict that is not open is final: whatever entries follow, a job that is finished or ended stays so, and one that is alive past its
+-- deadline is late or ended wherever it comes to stand.
+use Prim.Native.Nat.{_<_, ℕ, _≤_, suc}
+use mathlib.Core.Bool.{true, false, Bool}
 use mathlib.Core.List.{List, [], _∷_}
-use mathlib.Core.Path.{ap, ap₂, refl, subst, sym, _∙_, _≡_}
+use mathlib.Core.Path.{ap, ap₂, sym, _∙_, _≡_, refl, subst}
 use native.Mathlib.Omega.{arith}
-use lib.Dec.{ltb, eqb}
-use lib.ListN.{length}
-use borrow.Author.Tests.{eqb-true, ltb-true, not-false, not-true}
-use Rattle.bits.proofs.Arrays.{Written, written-all}
-use Rattle.bits.proofs.Below.{list-same}
-use Rattle.tables.specs.declared.outcome.Outcome.{Outcome}
-use Rattle.tables.specs.declared.outcome.Outcome.the-variants.{Done, Refused}
+use lib.Dec.{ltb, leb}
+use borrow.Author.Tests.{ltb-true, not-false, leb-false, leb-true, le-leb, lt-ltb}
+use Rattle.bits.proofs.Laws.Arrays.{Written, written-all}
+use Rattle.bits.proofs.Laws.Below.{list-same}
+use Rattle.tables.specs.declared.answers.Outcome.{Outcome}
+use Rattle.tables.specs.declared.answers.Outcome.the-variants.{Done, Refused}
 use Rattle.zsrm.specs.declared.answers.Judged.{Judged}
 use Rattle.zsrm.specs.declared.answers.Verdict.{Verdict}
 use Rattle.zsrm.specs.declared.answers.Verdicts.{Verdicts}
-use Rattle.zsrm.specs.declared.answers.Witness.{Witness}
-use Rattle.zsrm.specs.declared.claims.Replayed.{Replayed}
 use Rattle.zsrm.specs.declared.record.Record.{Record}
+use Rattle.zsrm.specs.Answers.{checkVerdict, checkVerdicts, judgedAt, verdictAnswer, verdictsAnswer}
+use Rattle.zsrm.specs.Given.{Given}
+use Rattle.tables.specs.Tables.{jobCount, Lists, arrival, deadlineInstant, taskOf}
+use Rattle.zsrm.specs.Record.{consistent, check11, doneAt, standingAt}
+use Rattle.tables.specs.Refusals.{before, check13, checkLists, unless, refuse}
+use Rattle.zsrm.specs.Verdict.{verdict, missed, isOpen, judged}
+use Rattle.tables.proofs.Laws.Refusals.{before-assoc, before-first, before-second, refuse-fine, answered}
+use Rattle.tables.proofs.Laws.Accepted.{lists-few, apart, accepted-job, lists-jobs, lists-tasks, accepted-task}
+use mathlib.Core.Logic.{Iff·trans, inl, inr, _↔_, _⊎_, ⊎-elim}
+use Rattle.bits.proofs.Laws.Bools.{clash, by-cond}
+use Rattle.tables.specs.Said.{done, outcomeSaid}
+use Rattle.zsrm.proofs.Laws.Said.{given-exactly, verdict-said}
+use Rattle.zsrm.proofs.Readings.{Judged as Judges, verdict-reads, isOpen-reads}
+use Rattle.zsrm.specs.Said.{verdictSaid}
 use Rattle.zsrm.specs.declared.record.Standing.{Standing}
 use Rattle.zsrm.specs.declared.record.Standing.the-variants.{Ended, Finished, NotArrived, Unfinished}
-use Rattle.zsrm.specs.Answers.{checkSchedule, checkVerdict, checkWitness, judgedAt, verdictAnswer, verdictsAnswer}
-use Rattle.zsrm.specs.Given.{Given}
-use Rattle.zsrm.specs.Code.Claims.{FitsIn, ReplayedAs}
-use Rattle.tables.specs.Tables.{arrival, execution, idle, jobCount, Lists}
-use Rattle.zsrm.specs.Record.{consistent, doneAt, fresh, opening, standingAt, check11}
-use Rattle.tables.specs.Refusals.{before, check13, checkLists, unless}
-use Rattle.zsrm.specs.Run.{replay, replayed, recordBefore}
-use Rattle.zsrm.specs.Tick.{advanced, alive, standingAfter, unfinished}
-use Rattle.zsrm.specs.Verdict.{answered, part, partTo, shownBy, verdict, witness, blamed, isOutside, missed, outsider}
-use Rattle.zsrm.proofs.Laws.Answers.{Accepted, accepted}
-use Rattle.zsrm.proofs.Laws.Assumption.{named-outside}
-use Rattle.zsrm.proofs.Laws.Claims.{replayed-whole}
-use Rattle.zsrm.proofs.Laws.Consistent.{Sound, advanced-consistent, fresh-consistent, sound-at}
-use Rattle.bits.proofs.Bools.{clash}
-use Rattle.zsrm.proofs.Laws.Places.{opens, opens-finished, standing-advanced, standing-alive, standing-fresh, tick-advanced, tick-fresh}
-use Rattle.zsrm.proofs.Laws.Tick.{goes-on}
-use Rattle.tables.proofs.Laws.Refusals.{before-first, before-second, refuse-fine}
-use Rattle.zsrm.proofs.Laws.Replay.{kept-at, legal-may, replayed-is, tick-replay, AllLegal}
-use Rattle.tables.proofs.Laws.Accepted.{lists-few}
-use Rattle.zsrm.proofs.Readings.{spared}
-use Rattle.zsrm.specs.Legal.{isLegal, legalLength}
+use Rattle.zsrm.proofs.Laws.Consistent.{Sound, sound-at}
+use Rattle.zsrm.specs.Run.{replay}
+use Rattle.zsrm.specs.Tick.{advanced, standingAfter}
+use Rattle.zsrm.proofs.Laws.Places.{standing-advanced, tick-advanced}
+use Rattle.zsrm.proofs.Laws.Tick.{goes-on-cases}
 use Rattle.zsrm.specs.declared.answers.Verdict.the-variants as verdicts
-use Rattle.zsrm.specs.declared.answers.Witness.the-variants as witnesses
 
 -- a job that the list has
 pub record Named (l : Lists) (j : ℕ) : Type 0 where
@@ -50,7 +47,7 @@ pub record Named (l : Lists) (j : ℕ) : Type 0 where
   pub job : j < jobCount (l .jobs)
   pub few : jobCount (l .jobs) ≤ 64
 
-listed : (l : Lists) (j : ℕ) → checkLists l ≡ Done → check13 (l .jobs) j ≡ Done → Named l j
+pub listed : (l : Lists) (j : ℕ) → checkLists l ≡ Done → check13 (l .jobs) j ≡ Done → Named l j
 unfolding check13
 listed l j ok h =
     record {
@@ -70,105 +67,44 @@ unfolding checkVerdict check11
 verdict-sound g r j ok =
     not-false (consistent g r) (refuse-fine _ _ _ (before-first (check11 (consistent g r)) _ (before-second (checkLists (g .lists)) _ ok)))
 
--- what a witness that is not refused says of its input
-pub record Witnessed (l : Lists) (horizon entries j : ℕ) : Type 0 where
-  pub input : Accepted l horizon entries
-  pub named : Named l j
-  pub limit : entries ≤ 16384
+-- the verdict on a job of the list, from a consistent record, is no refusal
+pub verdict-answered : (g : Given) → checkLists (g .lists) ≡ Done → (r : Record) → consistent g r ≡ true → (j : ℕ) → j < jobCount (g .lists .jobs) → verdictAnswer g r j ≡ verdict (g .lists) r j
+unfolding verdictAnswer checkVerdict check11 check13 refuse before unless
+verdict-answered g lists r sound j l = rw (lists, sound, lt-ltb j (jobCount (g .lists .jobs)) l)
 
-pub witnessed : (l : Lists) (horizon entries j : ℕ) → checkWitness l horizon entries j ≡ Done → Witnessed l horizon entries j
-unfolding checkWitness
-witnessed l horizon entries j ok =
-    let a = accepted l horizon entries (before-first (checkSchedule l horizon entries) _ ok) in
-    record {
-      input = a;
-      named = listed l j (a .lists) (before-second (checkSchedule l horizon entries) _ ok);
-      limit = omega (arith, a .bounded, a .whole);
-    }
+-- a job that is finished by its deadline is judged met
+pub met-answer : (g : Given) → checkLists (g .lists) ≡ Done → (r : Record) → consistent g r ≡ true → (j : ℕ) → j < jobCount (g .lists .jobs)
+    → (f : ℕ) → standingAt r j ≡ Finished f → f ≤ deadlineInstant (g .lists) j → verdictAnswer g r j ≡ verdicts.Met
+unfolding verdict
+met-answer g lists r sound j l f q b = verdict-answered g lists r sound j l ∙ rw (q, le-leb f (deadlineInstant (g .lists) j) b)
 
--- the answers to a witness in their order, as the code's tests come to them
-module _ (legal : Bool) (n : ℕ) (outside : Bool) (i : ℕ) (v : Verdict) where
-  pub answers-illegal : not legal ≡ true → witnesses.NotLegal n ≡ answered legal n outside i v
-  answers-illegal h = rw (not-true legal h)
+-- a verdict is given exactly where the checks pass and it is the judgement
+pub judged-exactly : (g : Given) (r : Record) (j : ℕ) (v : Verdict) → ((number place : ℕ) → verdicts.Refused number place ≡ v → ⊥)
+    → verdictSaid (verdictAnswer g r j) ≡ verdictSaid v ↔ (outcomeSaid (checkVerdict g r j) ≡ done) × Judges g r j v
+unfolding verdictAnswer
+judged-exactly g r j v never =
+    Iff·trans (given-exactly verdictSaid verdict-said verdicts.Refused (verdict (g .lists) r j) v never (checkVerdict g r j))
+    (λ w. (w .0, verdict-reads g r j v .0 (w .1)), λ w. (w .0, verdict-reads g r j v .1 (w .1)))
 
-  pub answers-outside : not legal ≡ false → outside ≡ true → witnesses.Outside i ≡ answered legal n outside i v
-  answers-outside h o = rw (not-false legal h, o)
-
-  pub answers-within : not legal ≡ false → outside ≡ false → blamed v ≡ answered legal n outside i v
-  answers-within h o = rw (not-false legal h, o)
-
-  pub answers-spared : not legal ≡ false → outside ≡ false → missed v ≡ false → witnesses.NotMissed ≡ answered legal n outside i v
-  answers-spared h o m = sym (spared v m) ∙ answers-within h o
-
--- a replay answers the witness: where it is legal its record is the one replayed, and elsewhere the verdict does not matter; i and m are
--- the first job that breaks the assumption and the number of jobs
-pub witness-answer : (g : Given) (schedule : List ℕ) (j : ℕ) (x : Replayed) (v : Verdict) (i m : ℕ) (w : Witness)
-    → ReplayedAs g schedule x → v ≡ verdict (g .lists) (x .«record») j → i ≡ outsider (g .lists) j → m ≡ jobCount (g .lists .jobs)
-    → w ≡ answered (eqb (x .ticks) (length schedule)) (x .ticks) (ltb i m) i v → w ≡ witness g schedule j
-unfolding witness isLegal
-witness-answer g schedule j x v i m w p qv qi qm qw =
-    qw ∙ ap (λ (n : ℕ). answered (eqb n (length schedule)) n (ltb i m) i v) (p .ticks)
-    ∙ ap₂ (λ (o : Bool) (k : ℕ). answered (eqb n (length schedule)) n o k v) (ap₂ ltb qi qm ∙ named-outside (g .lists) j) qi
-    ∙ go (eqb n (length schedule)) refl
+-- a judgement that is not missed is met or open
+pub not-missed : (g : Given) (r : Record) (j : ℕ) → missed (verdict (g .lists) r j) ≡ false → (verdict (g .lists) r j ≡ verdicts.Met) ⊎ (verdict (g .lists) r j ≡ verdicts.Open)
+not-missed g r j = go (verdict (g .lists) r j) refl
   where
-    n : ℕ
-    n = legalLength g schedule
-
-    o : Bool
-    o = isOutside (g .lists) j
-
-    k : ℕ
-    k = outsider (g .lists) j
-
-    go : (b : Bool) → eqb n (length schedule) ≡ b → answered b n o k v ≡ answered b n o k (verdict (g .lists) (replayed g schedule) j)
-    go false e = refl
-    go true e =
-        ap (answered true n o k) (qv ∙ ap (λ (r : Record). verdict (g .lists) r j) (replayed-whole g schedule x p (eqb-true n (length schedule) e)))
-
--- the record before each tick of a legal schedule, and the one at its end, is consistent
-pub legal-consistent : (g : Given) (schedule : List ℕ) → length schedule ≤ 16384 → AllLegal g (fresh (g .lists .jobs)) idle schedule → (t : ℕ) → consistent g (recordBefore g schedule t) ≡ true
-unfolding recordBefore
-legal-consistent g schedule limit legal t =
-    kept-at g 16384 (λ r. consistent g r ≡ true) (λ r p e b l s. advanced-consistent g r e b (legal-may g r p e l) s) (fresh (g .lists .jobs)) idle schedule
-    (rw tick-fresh (omega arith)) legal (fresh-consistent g) t
-
-pub replayed-consistent : (g : Given) (schedule : List ℕ) → length schedule ≤ 16384 → AllLegal g (fresh (g .lists .jobs)) idle schedule → consistent g (replayed g schedule) ≡ true
-replayed-consistent g schedule limit legal =
-    subst (λ (r : Record). consistent g r ≡ true) (replayed-is g schedule (length schedule) refl) (legal-consistent g schedule limit legal (length schedule))
-
--- so a finishing instant lies within it
-pub part-fits : (g : Given) (schedule : List ℕ) (j : ℕ) → length schedule ≤ 16384 → j < 64 → AllLegal g (fresh (g .lists .jobs)) idle schedule
-    → FitsIn (arrival (g .lists .jobs) j) schedule (standingAt (replayed g schedule) j)
-unfolding replayed
-part-fits g schedule j limit l legal =
-    go (standingAt (replayed g schedule) j) (sound-at g (replayed g schedule) (replayed-consistent g schedule limit legal) j l)
-    (tick-replay g (fresh (g .lists .jobs)) schedule ∙ ap (λ (t : ℕ). t + length schedule) (tick-fresh (g .lists .jobs)))
-  where
-    go : (s : Standing) → Sound g (replayed g schedule .tick) j (doneAt (replayed g schedule) j) s → replayed g schedule .tick ≡ 0 + length schedule
-        → FitsIn (arrival (g .lists .jobs) j) schedule s
-    go NotArrived w e = tt
-    go Unfinished w e = tt
-    go (Finished f) w e = (omega (arith, w .after), omega (arith, w .by))
-    go (Ended x) w e = tt
-
--- a replay answers for the part
-pub part-answer : (g : Given) (schedule : List ℕ) (j : ℕ) (x : Replayed) → ReplayedAs g schedule x
-    → shownBy (eqb (x .ticks) (length schedule)) (partTo (arrival (g .lists .jobs) j) schedule (standingAt (x .«record») j)) ≡ part g schedule j
-unfolding part isLegal
-part-answer g schedule j x p =
-    ap (λ (n : ℕ). shownBy (eqb n (length schedule)) (partTo (arrival (g .lists .jobs) j) schedule (standingAt (x .«record») j))) (p .ticks)
-    ∙ go (eqb (legalLength g schedule) (length schedule)) refl
-  where
-    go : (k : Bool) → eqb (legalLength g schedule) (length schedule) ≡ k
-        → shownBy k (partTo (arrival (g .lists .jobs) j) schedule (standingAt (x .«record») j)) ≡ shownBy k (partTo (arrival (g .lists .jobs) j) schedule (standingAt (replayed g schedule) j))
-    go false e = refl
-    go true e = ap (λ (r : Record). partTo (arrival (g .lists .jobs) j) schedule (standingAt r j)) (replayed-whole g schedule x p (eqb-true (legalLength g schedule) (length schedule) e))
+    go : (v : Verdict) → verdict (g .lists) r j ≡ v → missed v ≡ false → (v ≡ verdicts.Met) ⊎ (v ≡ verdicts.Open)
+    go (verdicts.Refused n p) q h = absurd (verdict-reads g r j (verdicts.Refused n p) .0 q)
+    go verdicts.Met q h = inl refl
+    go (verdicts.Late n isExact) q h = clash refl h
+    go verdicts.Ended q h = clash refl h
+    go verdicts.Open q h = inr refl
 
 -- all verdicts: what is checked once and what is checked of each job are the verdict's checks
-pub before-assoc : (a b c : Outcome) → before (before a b) c ≡ before a (before b c)
+pub verdict-checked : (g : Given) (r : Record) (j : ℕ) → before (checkVerdicts g r) (check13 (g .lists .jobs) j) ≡ checkVerdict g r j
+unfolding checkVerdicts checkVerdict
+verdict-checked g r j = before-assoc (checkLists (g .lists)) (check11 (consistent g r)) (check13 (g .lists .jobs) j)
+
+pub verdicts-refuse : (g : Given) (r : Record) (j number place : ℕ) → checkVerdicts g r ≡ Refused number place → checkVerdict g r j ≡ Refused number place
 unfolding before
-before-assoc Done b c = refl
-before-assoc (Refused number place) b c = refl
+verdicts-refuse g r j number place e = sym (verdict-checked g r j) ∙ rw e
 
 abbrev pub judgedBy : Lists → Record → Outcome → ℕ → Judged
 judgedBy l r checked j = record { verdict = unless (before checked (check13 (l .jobs) j)) verdicts.Refused (verdict l r j) }
@@ -177,60 +113,110 @@ pub judged-by : (l : Lists) (r : Record) (checked : Outcome) (j : ℕ) (v : Judg
     → v .verdict ≡ unless (before checked (check13 (l .jobs) j)) verdicts.Refused (verdict l r j) → v ≡ judgedBy l r checked j
 judged-by l r checked j v q = ap (λ (x : Verdict). let y : Judged = record { verdict = x } in y) q
 
-pub verdicts-made : (g : Given) (r : Record) (checked a b : Outcome) (d : Judged) (held : List Judged) (out : Verdicts) (j : ℕ) → checked ≡ before a b → a ≡ checkLists (g .lists)
-    → b ≡ check11 (consistent g r) → Written d (judgedBy (g .lists) r checked) held (out .of) 64 j → 64 ≤ j → out ≡ verdictsAnswer g r
-unfolding verdictsAnswer judgedAt verdictAnswer checkVerdict
-verdicts-made g r checked a b d held out j p pa pb w m =
-    ap (λ (l : List Judged). let y : Verdicts = record { of = l } in y)
+pub verdicts-made : (g : Given) (r : Record) (checked : Outcome) (d : Judged) (held : List Judged) (out : Verdicts) (j : ℕ) → checked ≡ checkVerdicts g r → out .outcome ≡ checked
+    → Written d (judgedBy (g .lists) r checked) held (out .of) 64 j → 64 ≤ j → out ≡ verdictsAnswer g r
+unfolding verdictsAnswer judgedAt verdictAnswer
+verdicts-made g r checked d held out j p told w m =
+    ap₂ (λ (o : Outcome) (l : List Judged). let y : Verdicts = record { outcome = o; of = l } in y) (told ∙ p)
     (written-all d (judgedBy (g .lists) r checked) held (out .of) 64 j w (λ k x y. absurd (omega arith))
     ∙ list-same 64 (judgedBy (g .lists) r checked) (judgedAt g r) (λ k x. ap (λ (v : Verdict). let y : Judged = record { verdict = v } in y) (same k)))
   where
-    same : (k : ℕ) → unless (before checked (check13 (g .lists .jobs) k)) verdicts.Refused (verdict (g .lists) r k)
-        ≡ unless (before (checkLists (g .lists)) (before (check11 (consistent g r)) (check13 (g .lists .jobs) k))) verdicts.Refused (verdict (g .lists) r k)
+    same : (k : ℕ) → unless (before checked (check13 (g .lists .jobs) k)) verdicts.Refused (verdict (g .lists) r k) ≡ unless (checkVerdict g r k) verdicts.Refused (verdict (g .lists) r k)
     same k =
         ap (λ (o : Outcome). unless o verdicts.Refused (verdict (g .lists) r k))
-        (ap (λ (o : Outcome). before o (check13 (g .lists .jobs) k)) (p ∙ ap₂ before pa pb) ∙ before-assoc (checkLists (g .lists)) (check11 (consistent g r)) (check13 (g .lists .jobs) k))
+        (ap (λ (o : Outcome). before o (check13 (g .lists .jobs) k)) p ∙ verdict-checked g r k)
 
--- whatever entries follow: what is finished or ended stays so, and a job that is alive finishes later than the record's tick
-module _ (g : Given) (j : ℕ) (l : j < 64) where
-  stays : (s : Standing) → ((r : Record) (e : ℕ) → standingAfter g r e j s ≡ s) → (es : List ℕ) (r : Record) → standingAt r j ≡ s → standingAt (replay g r es) j ≡ s
-  unfolding replay
-  stays s fixed [] r q = q
-  stays s fixed (e ∷ es) r q = stays s fixed es (advanced g r e) (standing-advanced g r e j l ∙ ap (standingAfter g r e j) q ∙ fixed r e)
+-- a later job of a task arrives at an earlier one's deadline or after it
+due-before : (l : Lists) → checkLists l ≡ Done → (i j : ℕ) → i < j → j < jobCount (l .jobs) → taskOf (l .jobs) j ≡ taskOf (l .jobs) i
+    → deadlineInstant l i ≤ arrival (l .jobs) j
+unfolding deadlineInstant
+due-before l ok i j m b its =
+    let t = accepted-task (l .tasks) (lists-tasks l ok) (taskOf (l .jobs) j) (accepted-job (l .tasks) (l .jobs) (lists-jobs l ok) j b .known) in
+    let far = apart (l .tasks) (l .jobs) (lists-jobs l ok) i j m b (sym its) in
+    rw (sym its) (omega (arith, t .deadline-period, far))
 
-  pub finishes-later : (es : List ℕ) (r : Record) (f : ℕ) → alive r j ≡ true → standingAt (replay g r es) j ≡ Finished f → r .tick < f
-  unfolding replay standingAfter alive
-  finishes-later [] r f a q = clash a (ap unfinished q)
-  finishes-later (e ∷ es) r f a q =
-      goes-on g r e (λ s. standingAt (advanced g r e) j ≡ s → r .tick < f) j
-      (λ _ _ now. let same : f ≡ suc (r .tick) = same-instant (sym q ∙ stays (Finished (suc (r .tick))) (λ x y. refl) es (advanced g r e) now) in omega arith)
-      (λ _ _ now. apart (sym q ∙ stays (Ended (r .tick)) (λ x y. refl) es (advanced g r e) now))
-      (λ _ _ now. let later = finishes-later es (advanced g r e) f (ap unfinished now) q in omega (arith, tick-advanced g r e))
-      (standing-alive g r e j l a)
+module _ (g : Given) (lists : checkLists (g .lists) ≡ Done) (r : Record) (sound : consistent g r ≡ true) (j : ℕ) (l : j < jobCount (g .lists .jobs)) where
+  sound-job : Sound g (r .tick) j (doneAt r j) (standingAt r j)
+  sound-job = let few = lists-few (g .lists) lists in sound-at g r sound j (omega arith)
+
+  -- a job is not arrived where its arrival lies ahead
+  ahead-waits : r .tick < arrival (g .lists .jobs) j → standingAt r j ≡ NotArrived
+  ahead-waits away = go (standingAt r j) sound-job
     where
-      same-instant : {x y : ℕ} → Finished x ≡ Finished y → x ≡ y
-      same-instant e = cc
+      go : (s : Standing) → Sound g (r .tick) j (doneAt r j) s → s ≡ NotArrived
+      go NotArrived w = refl
+      go Unfinished w = absurd (omega (arith, w .here .room))
+      go (Finished f) w = absurd (omega (arith, w .here .room))
+      go (Ended e) w = absurd (omega (arith, w .here .room))
 
-      apart : {x y : ℕ} {A : Type 0} → Finished x ≡ Ended y → A
-      apart e = let z : _≡_ {A = ℕ} 0 1 = cc in absurd (omega arith)
+  -- the deadline of an open job lies ahead
+  open-ahead : verdict (g .lists) r j ≡ verdicts.Open → r .tick < deadlineInstant (g .lists) j
+  unfolding deadlineInstant
+  open-ahead says =
+      ⊎-elim (λ q. let w : Sound g (r .tick) j (doneAt r j) NotArrived = subst (Sound g (r .tick) j (doneAt r j)) q sound-job in omega (arith, w .away l))
+      (λ w. w .1) (verdict-reads g r j verdicts.Open .0 says)
 
-  -- a job with c = 0 stands at each instant as it opens there: not arrived, and from its arrival on finished then
-  pub empty-opens : execution (g .lists .jobs) j ≡ 0 → (es : List ℕ) (r : Record) → standingAt r j ≡ opening (g .lists .jobs) (r .tick) j
-      → standingAt (replay g r es) j ≡ opening (g .lists .jobs) (replay g r es .tick) j
-  unfolding replay standingAfter
-  empty-opens none [] r q = q
-  empty-opens none (e ∷ es) r q =
-      empty-opens none es (advanced g r e)
-      (standing-advanced g r e j l ∙ ap (standingAfter g r e j) q
-      ∙ opens (g .lists .jobs) (r .tick) j (λ s. standingAfter g r e j s ≡ opening (g .lists .jobs) (advanced g r e .tick) j)
-      (λ k a c. rw tick-advanced (sym (opens-finished (g .lists .jobs) (suc (r .tick)) j k (omega arith) none))) (λ k a c. absurd (c none)) (λ w. rw tick-advanced))
+-- an answer that a job is open is no refusal: the lists are accepted and the record is consistent
+pub open-last : (g : Given) (r : Record) (i j : ℕ) → i < j → j < jobCount (g .lists .jobs) → taskOf (g .lists .jobs) j ≡ taskOf (g .lists .jobs) i
+    → verdictAnswer g r i ≡ verdicts.Open → verdictAnswer g r j ≡ verdicts.Open
+unfolding verdictAnswer
+open-last g r i j m l its says =
+    let w = answered verdicts.Refused (verdict (g .lists) r i) verdicts.Open (λ n p e. let z : _≡_ {A = ℕ} 0 1 = cc in omega arith) (checkVerdict g r i) .0 says in
+    let lists = verdict-named g r i (w .0) .lists in
+    let sound = verdict-sound g r i (w .0) in
+    let due = due-before (g .lists) lists i j m l its in
+    let ahead = open-ahead g lists r sound i (omega arith) (w .1) in
+    let none = ahead-waits g lists r sound j l (omega arith) in
+    verdict-answered g lists r sound j l ∙ verdict-reads g r j verdicts.Open .1 (inl none)
 
--- so at the end of a schedule that reaches its arrival it is finished at its arrival
-pub empty-finished : (g : Given) (schedule : List ℕ) (j : ℕ) → j < 64 → j < jobCount (g .lists .jobs) → execution (g .lists .jobs) j ≡ 0
-    → arrival (g .lists .jobs) j ≤ length schedule → standingAt (replayed g schedule) j ≡ Finished (arrival (g .lists .jobs) j)
-unfolding replayed
-empty-finished g schedule j l k none a =
-    let jobs = g .lists .jobs in
-    let t = tick-replay g (fresh jobs) schedule in
-    empty-opens g j l none schedule (fresh jobs) (standing-fresh jobs j l ∙ ap (λ (t : ℕ). opening jobs t j) (sym (tick-fresh jobs)))
-    ∙ opens-finished jobs (replay g (fresh jobs) schedule .tick) j k (omega (arith, t)) none
+-- a verdict that is not open, and is missed or not as b says
+abbrev pub Final : Bool → Verdict → Type 0
+Final b v = (isOpen v ≡ false) × (missed v ≡ b)
+
+-- a verdict that is missed is not open
+pub missed-final : (v : Verdict) → missed v ≡ true → isOpen v ≡ false
+missed-final (verdicts.Refused number place) h = refl
+missed-final verdicts.Met h = refl
+missed-final (verdicts.Late n isExact) h = refl
+missed-final verdicts.Ended h = refl
+missed-final verdicts.Open h = clash h refl
+
+pub is-open : (v : Verdict) → isOpen v ≡ true → v ≡ verdicts.Open
+unfolding verdictSaid
+is-open v h = verdict-said v verdicts.Open (isOpen-reads v .0 h)
+
+module _ (due : ℕ) (b : Bool) where
+  -- an unfinished job whose verdict is final is past its deadline, and missed
+  overdue : (t : ℕ) → Final b (judged due t Unfinished) → (due ≤ t) × (true ≡ b)
+  overdue t =
+      by-cond (λ v. Final b v → (due ≤ t) × (true ≡ b)) (leb due t) _ verdicts.Open (λ h w. (leb-true due t h, w .1)) (λ h w. clash refl (w .0))
+
+  -- so is an unfinished job past its deadline, and one that finishes past it
+  late-unfinished : (t : ℕ) → due ≤ t → true ≡ b → Final b (judged due t Unfinished)
+  late-unfinished t l q = by-cond (Final b) (leb due t) _ verdicts.Open (λ h. (refl, q)) (λ h. absurd (omega (arith, leb-false due t h)))
+
+  late-finished : (t f : ℕ) → due < f → true ≡ b → Final b (judged due t (Finished f))
+  late-finished t f l q = by-cond (Final b) (leb f due) verdicts.Met _ (λ h. absurd (omega (arith, leb-true f due h))) (λ h. (refl, q))
+
+-- each tick keeps it, and so do all
+module _ (g : Given) (j : ℕ) (l : j < 64) (b : Bool) where
+  final-ticks : (r : Record) (e : ℕ) → Final b (verdict (g .lists) r j) → Final b (verdict (g .lists) (advanced g r e) j)
+  unfolding verdict standingAfter
+  final-ticks r e w = rw (standing-advanced g r e j l, tick-advanced) (go (standingAt r j) w)
+    where
+      due : ℕ
+      due = deadlineInstant (g .lists) j
+
+      go : (s : Standing) → Final b (judged due (r .tick) s) → Final b (judged due (suc (r .tick)) (standingAfter g r e j s))
+      go NotArrived w = clash refl (w .0)
+      go Unfinished w =
+          let past = overdue due b (r .tick) w in
+          goes-on-cases g r e (λ s. Final b (judged due (suc (r .tick)) s)) j (λ _ _. late-finished due b (suc (r .tick)) (suc (r .tick)) (omega arith) (past .1))
+          (λ _ _. (refl, past .1)) (λ _ _. late-unfinished due b (suc (r .tick)) (omega arith) (past .1))
+      go (Finished f) w = w
+      go (Ended t) w = w
+
+  pub final-stays : (entries : List ℕ) (r : Record) → Final b (verdict (g .lists) r j) → Final b (verdict (g .lists) (replay g r entries) j)
+  unfolding replay
+  final-stays [] r w = w
+  final-stays (e ∷ es) r w = final-stays es (advanced g r e) (final-ticks r e w)

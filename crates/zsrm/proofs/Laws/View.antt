@@ -1,18 +1,19 @@
--- The code's sets of jobs are those of "One tick": what a loop has collected, and what the words of the view say.
-use native.Mathlib.Numerals.{add-one}
-use Prim.Native.Nat.{_+_, _<_, suc, zero, ℕ, _≤_}
+-- The code's sets of jobs are those of "One tick": what a loop has collected, and what the words of the view say. So a step on accepted
+-- lists is document 01's: what the code sees, chooses and advances to.
+use Prim.Native.Nat.{_+_, _<_, ℕ, _≤_}
 use mathlib.Core.Bool.{_&&_, Bool, cond, false, not, true, _||_}
 use mathlib.Core.List.{List}
 use mathlib.Core.Logic.{inl, inr, _⊎_}
 use mathlib.Core.Path.{ap, ap₂, refl, sym, _∙_, _≡_}
 use native.Mathlib.Omega.{arith}
 use lib.Dec.{eqb, leb, ltb}
-use borrow.Author.Tests.{le-ltb, lt-ltb, ltb-false, ltb-true}
-use Rattle.bits.specs.Below.{bit, greatest, word, some}
+use borrow.Author.Tests.{lt-ltb, ltb-true}
+use Rattle.bits.specs.Below.{bit, greatest, word, count}
 use Rattle.bits.specs.Word.{without, withBit}
-use Rattle.bits.proofs.Below.{least-same, some-same}
-use Rattle.bits.proofs.Bools.{and-false-right, by-cond, clash, either, eqb-swap, fails}
-use Rattle.bits.proofs.Word.{bit-above, bit-word, highest-word, upTo, without-word, word-none, word-same}
+use Rattle.bits.proofs.Laws.Below.{least-same, some-same}
+use Rattle.bits.proofs.Laws.Bools.{and-false-right, by-cond, clash, either, eqb-swap, never-true}
+use Rattle.bits.proofs.Laws.Word.{bit-above, bit-word, highest-word, upTo, without-word, word-none, word-same, count-bits}
+use Rattle.bits.proofs.Laws.Most.{greatest-key}
 use Rattle.zsrm.specs.declared.record.Record.{Record}
 use Rattle.zsrm.specs.declared.next.Ticked.{Ticked}
 use Rattle.zsrm.specs.declared.tick.View.{View}
@@ -20,10 +21,18 @@ use Rattle.zsrm.specs.declared.tie.Tie.{Tie}
 use Rattle.zsrm.specs.Given.{isSE, Given}
 use Rattle.tables.specs.Tables.{idle, jobCount, jobCriticality, jobNominal, jobPriority, zeroSlackInstant, Lists}
 use Rattle.zsrm.specs.Record.{doneAt}
-use Rattle.zsrm.specs.Tick.{alive, candidate, choice, doneAfter, eligible, endedWord, ends, isStay, jobWord, keeps, lowest, moreCritical, over, pastZeroSlack, readyAt, readyWord, someJob, suspended, waits}
-use Rattle.zsrm.specs.Code.View.{lessCriticalWord, chosen, hasPriority, isPast, keepsBy, lessCriticalIn, lowestOf, overrunWord, overruns, pastWord, priorityWord, tickedBy, view, waitingWord, greatestKey, greatestCriticality}
+use Rattle.zsrm.specs.Tick.{alive, candidate, choice, doneAfter, eligible, endedWord, ends, isStay, jobWord, keeps, lowest}
+use Rattle.zsrm.specs.Tick.{moreCritical, over, pastZeroSlack, readyAt, readyWord, someJob, suspended, waits, advanced, candidateOrIdle, readyCount}
+use Rattle.zsrm.specs.Code.View.{lessCriticalWord, chosen, hasPriority, isPast, keepsBy, lessCriticalIn, lowestOf}
+use Rattle.zsrm.specs.Code.View.{overrunWord, overruns, pastWord, priorityWord, tickedBy, view, waitingWord, greatestCriticality}
 use Rattle.zsrm.proofs.Laws.Ready.{candidate-top}
 use Rattle.zsrm.proofs.Laws.Tick.{ends-by, se-reads, waiting}
+use Rattle.tables.specs.declared.answers.Outcome.the-variants.{Done}
+use Rattle.zsrm.specs.declared.answers.Stepped.{Stepped}
+use Rattle.zsrm.specs.Answers.{stepped}
+use Rattle.tables.specs.Refusals.{checkLists}
+use Rattle.zsrm.proofs.Laws.Choice.{choice-may}
+use Rattle.tables.proofs.Laws.Accepted.{bounded, lists-few}
 
 -- what the tick does with the entry e, the jobs as words
 abbrev pub ticked : Given → Record → ℕ → Ticked
@@ -64,34 +73,6 @@ pub jobWord-bit : (jobs : List ℕ) (f : ℕ → Bool) (j : ℕ) → jobCount jo
 unfolding jobWord
 jobWord-bit jobs f j few l = bit-word (upTo f (jobCount jobs)) 64 j (omega arith) ∙ rw (lt-ltb j (jobCount jobs) l)
 
--- some number that passes has a key above x exactly where the greatest key is
-pub greatest-key : (f : ℕ → Bool) (key : ℕ → ℕ) (n x : ℕ) → some n (λ i. f i && ltb x (key i)) ≡ ltb x (greatestKey n f key)
-unfolding some greatestKey
-greatest-key f key zero x = sym (le-ltb x 0 (omega arith))
-greatest-key f key (suc n) x =
-    ap (λ (b : Bool). (f n && ltb x (key n)) || b) (greatest-key f key n x) ∙ go (f n) (either (ltb (greatestKey n f key) (key n))) (either (ltb x (key n))) (either (ltb x (greatestKey n f key)))
-  where
-    m : ℕ
-    m = greatestKey n f key
-
-    go : (b : Bool) → (ltb m (key n) ≡ true) ⊎ (ltb m (key n) ≡ false) → (ltb x (key n) ≡ true) ⊎ (ltb x (key n) ≡ false) → (ltb x m ≡ true) ⊎ (ltb x m ≡ false)
-        → ((b && ltb x (key n)) || ltb x m) ≡ ltb x (cond (b && ltb m (key n)) (key n) m)
-    go false p q r = refl
-    go true (inl p) (inl q) r = rw (p, q)
-    go true (inl p) (inr q) (inl r) = absurd (omega (arith, ltb-true m (key n) p, ltb-false x (key n) q, ltb-true x m r))
-    go true (inl p) (inr q) (inr r) = rw (p, q, r)
-    go true (inr p) (inl q) (inl r) = rw (p, q, r)
-    go true (inr p) (inl q) (inr r) = absurd (omega (arith, ltb-false m (key n) p, ltb-true x (key n) q, ltb-false x m r))
-    go true (inr p) (inr q) r = rw (p, q)
-
--- a loop has found the greatest so far
-pub greatest-key-more : (f : ℕ → Bool) (key : ℕ → ℕ) (j m v : ℕ) → m ≡ greatestKey j f key → v ≡ cond (f j && ltb m (key j)) (key j) m → v ≡ greatestKey (j + 1) f key
-unfolding greatestKey
-greatest-key-more f key j m v p q = rw add-one (q ∙ ap (λ (x : ℕ). cond (f j && ltb x (key j)) (key j) x) p)
-
-pub greatest-key-all : (f : ℕ → Bool) (key : ℕ → ℕ) (n j m : ℕ) → j ≤ n → n ≤ j → m ≡ greatestKey j f key → m ≡ greatestKey n f key
-greatest-key-all f key n j m a b p = p ∙ ap (λ (k : ℕ). greatestKey k f key) (omega arith)
-
 -- each word of the view is the document's set
 module _ (g : Given) (r : Record) (few : jobCount (g .lists .jobs) ≤ 64) where
   aliveBit : (j : ℕ) → j < jobCount (g .lists .jobs) → bit (jobWord (g .lists .jobs) (alive r)) j ≡ alive r j
@@ -113,7 +94,8 @@ module _ (g : Given) (r : Record) (few : jobCount (g .lists .jobs) ≤ 64) where
       ∙ some-same _ (λ i. f i && ltb (jobCriticality (g .lists) j) (jobCriticality (g .lists) i)) (jobCount (g .lists .jobs))
       (λ i m. ap (λ (b : Bool). b && ltb (jobCriticality (g .lists) j) (jobCriticality (g .lists) i)) (jobWord-bit (g .lists .jobs) f i few m))))
 
-  pub suspended-view : lessCriticalWord (g .lists) (jobWord (g .lists .jobs) (alive r)) (greatestCriticality (g .lists) (jobWord (g .lists .jobs) (pastZeroSlack g r))) ≡ jobWord (g .lists .jobs) (suspended g r)
+  pub suspended-view : lessCriticalWord (g .lists) (jobWord (g .lists .jobs) (alive r))
+      (greatestCriticality (g .lists) (jobWord (g .lists .jobs) (pastZeroSlack g r))) ≡ jobWord (g .lists .jobs) (suspended g r)
   unfolding suspended
   suspended-view = below-by (pastZeroSlack g r)
 
@@ -203,12 +185,12 @@ module _ (g : Given) (r : Record) (few : jobCount (g .lists .jobs) ≤ 64) where
             go true true b = refl
 
         none : ltb e n ≡ false → 0 ≡ word 64 (upTo (waits g r e) n)
-        none h = sym (word-none _ 64 (λ j _. and-false-right (ltb j n) (fails _ (λ w. clash (lt-ltb e n (waiting g r e j .0 w .1)) h))))
+        none h = sym (word-none _ 64 (λ j _. and-false-right (ltb j n) (never-true _ (λ w. clash (lt-ltb e n (waiting g r e j .0 w .1)) h))))
 
 -- in mode S no job is ended
 pub none-ended : (g : Given) (r : Record) (e : ℕ) → isSE (g .mode) ≡ false → endedWord g r e ≡ 0
 unfolding endedWord jobWord
-none-ended g r e s = word-none _ 64 (λ j _. and-false-right (ltb j (jobCount (g .lists .jobs))) (fails (ends g r e j) (λ h. clash (se-reads (g .mode) .1 (ends-by g r e j h .1 .se)) s)))
+none-ended g r e s = word-none _ 64 (λ j _. and-false-right (ltb j (jobCount (g .lists .jobs))) (never-true (ends g r e j) (λ h. clash (se-reads (g .mode) .1 (ends-by g r e j h .1 .se)) s)))
 
 -- what the code ends, in either mode, is what the tick ends
 module _ (g : Given) (r : Record) (v : View) (e : ℕ) (few : jobCount (g .lists .jobs) ≤ 64) (q : v ≡ view (g .lists) r) where
@@ -223,3 +205,23 @@ module _ (g : Given) (r : Record) (v : View) (e : ℕ) (few : jobCount (g .lists
   pub ticked-made : (ended : ℕ) (w : Ticked) → ended ≡ endedWord g r e → w ≡ tickedBy (g .lists .jobs) v e ended → w ≡ ticked g r e
   unfolding tickedBy
   ticked-made ended w p h = h ∙ rw (p, q, seen g r few .suspended, seen g r few .eligible, waiting-view g r few e)
+
+module _ (g : Given) (ok : checkLists (g .lists) ≡ Done) (tie : Tie) where
+  -- what is chosen from the view is our choice
+  pub our-choice : (r : Record) (v : View) (e : ℕ) → v ≡ view (g .lists) r → e ≡ chosen (g .lists) tie v (r .previous) → e ≡ choice g tie r
+  our-choice r v e p q =
+      q ∙ ap (λ (x : View). chosen (g .lists) tie x (r .previous)) p
+      ∙ chosen-view g r (lists-few (g .lists) ok) (λ j l. let w = bounded (g .lists) ok j l in omega arith) tie
+
+  pub our-choice-runs : (r : Record) (e : ℕ) → e ≡ choice g tie r → candidateOrIdle g r e ≡ true
+  our-choice-runs r e q = ap (candidateOrIdle g r) q ∙ choice-may g tie r
+
+  pub stepped-made : (r : Record) (v : View) (next : Record) (e ended ones : ℕ) → v ≡ view (g .lists) r → e ≡ choice g tie r
+      → next ≡ advanced g r e → ended ≡ endedWord g r e → ones ≡ count 64 (bit (v .ready))
+      → _≡_ {A = Stepped} (record { outcome = Done; «record» = next; ready = v .ready; ones = ones; entry = e; ended = ended }) (stepped g tie r)
+  unfolding stepped readyCount
+  stepped-made r v next e ended ones p q n d o =
+      let ready : v .ready ≡ readyWord g r = ap (λ (x : View). x .ready) p ∙ seen g r (lists-few (g .lists) ok) .ready in
+      let counted : ones ≡ count 64 (readyAt g r) =
+      o ∙ ap (λ (w : ℕ). count 64 (bit w)) ready ∙ unfold readyWord in count-bits (readyAt g r) 64 in
+      rw (n, d, counted, ready, q)

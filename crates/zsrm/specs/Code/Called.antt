@@ -5,7 +5,7 @@ use mathlib.Core.Bool.{not, _||_}
 use mathlib.Core.List.{List}
 use lib.Dec.{eqb, ltb}
 use Rattle.bits.specs.Below.{listFrom}
-use Rattle.tables.specs.declared.outcome.Outcome.{Outcome}
+use Rattle.tables.specs.declared.answers.Outcome.{Outcome}
 use Rattle.tables.specs.Bytes.{numberAt}
 use Rattle.tables.specs.Refusals.{refuse, before, checkTasks, checkJobs, check9, check10}
 use Rattle.zsrm.specs.declared.c.Called.{Called}
@@ -13,7 +13,7 @@ use Rattle.zsrm.specs.Bytes.{modeOf, check1, uneven, checkBytes}
 
 -- the numbers that a list's bytes begin with, as many as the longest list may have; past its end they are 0
 unfoldable pub decoded : List ℕ → List ℕ
-decoded bytes = listFrom 0 192 (λ i. numberAt bytes (i * 4))
+decoded bytes = listFrom 0 192 (λ i. numberAt 4 bytes (i * 4))
 
 -- a count of bytes that makes no whole number, or more than 192 of them
 abbrev pub checkCount : ℕ → ℕ → Outcome

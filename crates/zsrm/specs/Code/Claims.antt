@@ -12,20 +12,20 @@ use Rattle.zsrm.specs.declared.record.Standing.the-variants.{NotArrived,
 use Rattle.zsrm.specs.declared.record.Place.{Place}
 use Rattle.zsrm.specs.declared.record.Record.{Record}
 use Rattle.zsrm.specs.declared.tick.View.{View}
-use Rattle.zsrm.specs.declared.claims.Replayed.{Replayed}
+use Rattle.zsrm.specs.declared.claims.Walked.{Walked}
 use Rattle.zsrm.specs.Given.{Given}
 use Rattle.tables.specs.Tables.{idle, jobCount, arrival, jobNominal, zeroSlackInstant, Lists}
 use Rattle.zsrm.specs.Code.View.{hasPriority}
 use Rattle.zsrm.specs.Run.{recordBefore}
 use Rattle.zsrm.specs.Record.{consistent}
-use Rattle.zsrm.specs.Legal.{finishedAt, legalEntry, legalLength}
+use Rattle.zsrm.specs.Legal.{isFinishedAt, legalEntry, legalLength}
 use Rattle.zsrm.specs.Mend.{mendChoice}
 
 module _ (l : Lists) where
   -- job j, at the place p, makes tick t a scheduling instant, the entry before being last
   unfoldable pub instantAt : Bool → ℕ → ℕ → ℕ → Place → Bool
   instantAt se last t j p =
-      eqb (arrival (l .jobs) j) t || finishedAt t (p .standing) || eqb (zeroSlackInstant l j) t
+      eqb (arrival (l .jobs) j) t || isFinishedAt t (p .standing) || eqb (zeroSlackInstant l j) t
       || (se && eqb last j && eqb (p .done) (jobNominal l j))
 
   -- an eligible job of the top priority that is ready, or idle where none is ready
@@ -35,7 +35,7 @@ module _ (l : Lists) where
       || (eqb e idle && eqb (v .ready) 0)
 
 -- how many entries replaying a schedule finds legal, and the record behind them
-pub record ReplayedAs (g : Given) (schedule : List ℕ) (r : Replayed) : Type 0 where
+pub record WalkedAs (g : Given) (schedule : List ℕ) (r : Walked) : Type 0 where
   pub ticks : r .ticks ≡ legalLength g schedule
   pub here : r .«record» ≡ recordBefore g schedule (legalLength g schedule)
 

@@ -1,10 +1,10 @@
 -- How the code sees a tick: sets of jobs as words, bit j for job j. No contract that callers see cites it; the laws in
 -- proofs/Laws/View join it to "One tick".
-use Prim.Native.Nat.{ℕ, zero, suc, _+_}
+use Prim.Native.Nat.{ℕ, _+_}
 use mathlib.Core.List.{List}
 use mathlib.Core.Bool.{Bool, _&&_, cond}
 use lib.Dec.{leb, ltb, eqb}
-use Rattle.bits.specs.Below.{least, greatest, word, bit}
+use Rattle.bits.specs.Below.{least, greatest, word, bit, greatestKey}
 use Rattle.bits.specs.Word.{without, withBit}
 use Rattle.zsrm.specs.declared.record.Record.{Record}
 use Rattle.zsrm.specs.declared.next.Ticked.{Ticked}
@@ -13,11 +13,6 @@ use Rattle.zsrm.specs.declared.tie.Tie.{Tie}
 use Rattle.tables.specs.Tables.{idle, jobCount, jobCriticality, jobPriority, jobNominal, zeroSlackInstant, Lists}
 use Rattle.zsrm.specs.Record.{doneAt}
 use Rattle.zsrm.specs.Tick.{alive, isStay, someJob, jobWord}
-
--- the greatest key among the numbers below the bound that pass, 0 where none does
-unfoldable pub greatestKey : ℕ → (ℕ → Bool) → (ℕ → ℕ) → ℕ
-greatestKey zero f key = 0
-greatestKey (suc n) f key = cond (f n && ltb (greatestKey n f key) (key n)) (key n) (greatestKey n f key)
 
 module _ (l : Lists) where
   -- the greatest criticality among the jobs of a set, 0 where it has none: nothing is less than 0, so nobody is then below it

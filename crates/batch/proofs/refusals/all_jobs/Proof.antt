@@ -32,6 +32,5 @@ pub all-jobs-spec : {M : Type 1} → statement M
 all-jobs-spec =
     tie.close
     (tie.spec Inv-loop μ-loop (λ c. (omega arith, sym (jobs-none _), omega arith)) (λ c. search needs) (λ c. search needs)
-    (λ c. omega (arith, c .shared-slice-known .given (c .before .before .loop .r)))
-    (λ c. omega (arith, c .shared-slice-known .given (c .before .before .loop .r)))
+    (λ c. omega (arith, c .shared-slice-known .given (c .before .before .loop .r))) (λ c. omega (arith, c .shared-slice-known .given (c .before .before .loop .r)))
     (λ c. search needs) (λ c. search needs) loop-again returns)

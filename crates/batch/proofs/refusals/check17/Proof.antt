@@ -25,4 +25,6 @@ returns-2 c =
 pub check17-spec : {M : Type 1} → statement M
 unfolding check17 refuse
 check17-spec =
-    tie.close (tie.spec (λ c. rw (lt-ltb 32 (length (c .before .before .before .args .counts .now)) (c .if1 .taken))) (λ c κs. search needs) (λ c. omega (arith, c .all-jobs .ensures .1)) mul-placed (λ c κs. search needs) returns-2)
+    tie.close
+    (tie.spec (λ c. rw (lt-ltb 32 (length (c .before .before .before .args .counts .now)) (c .if1 .taken))) (λ c κs. search needs) (λ c. omega (arith, c .all-jobs .ensures .1))
+    mul-placed (λ c κs. search needs) returns-2)

@@ -19,8 +19,7 @@ returns c =
 returns-2 : tie.Need-returns-2
 returns-2 c =
     let refuses = sym (c .before .before .before .before .check-call .ensures) ∙ c .before .before .call .given .1 in
-    c .named .ensures ∙ sym (batch-call _ _ _ _ _ _ _ refuses)
+    c .with-run .ensures ∙ sym (batch-call _ _ _ _ _ _ _ refuses)
 
 pub check-batch-spec : {M : Type 1} → statement M
-check-batch-spec =
-    tie.close (tie.spec (λ c κs. search needs) (λ c. search needs) check-runs-requires (λ c. search needs) (λ c κs. search needs) returns returns-2)
+check-batch-spec = tie.close (tie.spec (λ c κs. search needs) (λ c. search needs) check-runs-requires (λ c. search needs) (λ c κs. search needs) returns returns-2)

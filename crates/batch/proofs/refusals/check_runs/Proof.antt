@@ -5,7 +5,7 @@ use native.Mathlib.Omega.{arith}
 use lib.ListN.{length}
 use borrow.Author.Needs.{needs}
 use Rattle.tables.specs.Refusals.{checkJobs}
-use Rattle.batch.specs.Refusals.{checkRuns, first, named}
+use Rattle.batch.specs.Refusals.{checkRuns, goesFirst, withRun}
 use Rattle.batch.specs.Runs.{jobsBefore}
 use Rattle.batch.proofs.Laws.Refusals.{checks-more, checks-none}
 use Rattle.batch.proofs.Laws.Runs.{jobs-more, jobs-none, list-ends, list-is}
@@ -21,7 +21,7 @@ abbrev μ-loop : tie.MeasureT-loop
 loop-holds : tie.Need-loop-holds Inv-loop μ-loop
 loop-holds c =
     let start = c .before .before .before .before in
-    (omega arith, sym (ap (λ (n : ℕ). n * 3) (jobs-none (start .args .counts .now))), c .named .ensures ∙ sym (checks-none _ _ _))
+    (omega arith, sym (ap (λ (n : ℕ). n * 3) (jobs-none (start .args .counts .now))), c .with-run .ensures ∙ sym (checks-none _ _ _))
 
 -- list r ends within the flat list
 part-check-jobs-end : tie.Need-part-check-jobs-end Inv-loop μ-loop
@@ -29,12 +29,12 @@ part-check-jobs-end c =
     let at = c .before .before in
     let start = at .before .before .before .before .before in
     let within = list-ends (start .args .jobs .now) (start .args .counts .now) (start .pre .1) (at .loop .r) (c .before .loop-test .taken) in
-    omega (arith, c .numbers .ensures, at .loop .inv .1)
+    omega (arith, c .list-length .ensures, at .loop .inv .1)
 
 loop-again : tie.Need-loop-again Inv-loop μ-loop
 loop-again c =
     let own = c .before .before .check-jobs in
-    let count = c .before .before .before .before .numbers in
+    let count = c .before .before .before .before .list-length in
     let at = c .before .before .before .before .before .before in
     let start = at .before .before .before .before .before in
     let tasks = start .args .tasks .now in
@@ -45,7 +45,7 @@ loop-again c =
     let more = jobs-more counts r in (
       omega arith,
       omega (arith, count .ensures, at .loop .inv .1),
-      c .first .ensures ∙ ap₂ first (at .loop .inv .2) (c .before .named2 .ensures ∙ ap (named r) (own .ensures ∙ ap (checkJobs tasks) list)) ∙ sym (checks-more tasks jobs counts r),
+      c .goes-first .ensures ∙ ap₂ goesFirst (at .loop .inv .2) (c .before .with-run2 .ensures ∙ ap (withRun r) (own .ensures ∙ ap (checkJobs tasks) list)) ∙ sym (checks-more tasks jobs counts r),
     )
 
 returns : tie.Need-returns Inv-loop μ-loop
@@ -58,5 +58,7 @@ returns c =
 pub check-runs-spec : {M : Type 1} → statement M
 check-runs-spec =
     tie.close
-    (tie.spec Inv-loop μ-loop (λ c κs. search needs) loop-holds (λ c κs. search needs) (λ c. omega (arith, part-check-jobs-end c)) (λ c. omega (arith, part-check-jobs-end c)) (λ c. search needs) (λ c. search needs) part-check-jobs-end
-    (λ c κs. search needs) (λ c. omega (arith, c .before .before .before .before .before .before .before .before .before .pre .0)) (λ c κs. search needs) (λ c κs. search needs) (λ c. search needs) (λ c. search needs) loop-again returns)
+    (tie.spec Inv-loop μ-loop (λ c κs. search needs) loop-holds (λ c κs. search needs) (λ c. omega (arith, part-check-jobs-end c)) (λ c. omega (arith, part-check-jobs-end c))
+    (λ c. search needs) (λ c. search needs) part-check-jobs-end (λ c κs. search needs)
+    (λ c. omega (arith, c .before .before .before .before .before .before .before .before .before .pre .0)) (λ c κs. search needs) (λ c κs. search needs) (λ c. search needs)
+    (λ c. search needs) loop-again returns)

@@ -1,12 +1,10 @@
 -- The array is 32 times the blank record.
-use mathlib.Core.Path.{refl}
-use Rattle.zsrm.specs.Record.{blank}
+use mathlib.Core.Path.{ap}
+use lib.ListN.{replicate}
+use borrow.Author.Needs.{needs}
+use Rattle.zsrm.specs.declared.record.Record.{Record}
 use Rattle.batch.proofs.runs.no_records.Statement.{statement}
 use Rattle.batch.proofs.runs.no_records.Tie as tie
 
-returns : tie.Need-returns
-unfolding blank
-returns c = refl
-
 pub no-records-spec : {M : Type 1} → statement M
-no-records-spec = tie.close (tie.spec returns)
+no-records-spec = tie.close (tie.spec (λ c κs. search needs) (λ c. ap (λ (r : Record). replicate 32 r) (c .blank .ensures)))

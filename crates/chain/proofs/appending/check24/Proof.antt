@@ -8,4 +8,5 @@ pub check24-spec : {M : Type 1} → statement M
 unfolding check24
 check24-spec =
     tie.close
-    (tie.spec (λ c κs. search needs) (λ c κs. search needs) (λ c κs. search needs) (λ c. rw (c .refuse .ensures, c .before .passes2 .ensures, c .before .before .passes .ensures)))
+    (tie.spec (λ c κs. search needs) (λ c κs. search needs) (λ c κs. search needs)
+    (λ c. rw (c .refuse .ensures, c .before .passes2 .ensures, c .before .before .passes .ensures)))

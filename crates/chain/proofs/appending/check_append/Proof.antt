@@ -11,6 +11,4 @@ returns c =
     rw (c .before3 .ensures, c .before .before2 .ensures, last .check-last .ensures, last .before .check-table .ensures, last .before .before .check24 .ensures)
 
 pub check-append-spec : {M : Type 1} → statement M
-check-append-spec =
-    tie.close
-    (tie.spec (λ c κs. search needs) (λ c κs. search needs) (λ c κs. search needs) (λ c κs. search needs) (λ c κs. search needs) returns)
+check-append-spec = tie.close (tie.spec (λ c κs. search needs) (λ c κs. search needs) (λ c κs. search needs) (λ c κs. search needs) (λ c κs. search needs) returns)

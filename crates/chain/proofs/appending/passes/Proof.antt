@@ -3,14 +3,9 @@ use Rattle.chain.proofs.Laws.Appending.{passes-numbers, passes-trailer,
 use Rattle.chain.proofs.appending.passes.Statement.{statement}
 use Rattle.chain.proofs.appending.passes.Tie as tie
 
-returns : tie.Need-returns
-returns c = let a = c .before .args in passes-used (a .limit) (a .used) (a .numbers) (c .if1 .taken)
-
-returns-2 : tie.Need-returns-2
-returns-2 c = let a = c .before .before .args in passes-trailer (a .limit) (a .used) (a .numbers) (c .before .if1 .left) (c .if2 .taken)
-
-returns-3 : tie.Need-returns-3
-returns-3 c = let a = c .before .before .args in passes-numbers (a .limit) (a .used) (a .numbers) (c .before .if1 .left) (c .if2 .left)
-
 pub passes-spec : {M : Type 1} → statement M
-passes-spec = tie.close (tie.spec returns returns-2 returns-3)
+passes-spec =
+    tie.close
+    (tie.spec (λ c. let a = c .before .args in passes-used (a .limit) (a .used) (a .numbers) (c .if1 .taken))
+    (λ c. let a = c .before .before .args in passes-trailer (a .limit) (a .used) (a .numbers) (c .before .if1 .left) (c .if2 .taken))
+    (λ c. let a = c .before .before .args in passes-numbers (a .limit) (a .used) (a .numbers) (c .before .if1 .left) (c .if2 .left)))

@@ -4,5 +4,4 @@ use Rattle.chain.proofs.layout.number_of.Statement.{statement}
 use Rattle.chain.proofs.layout.number_of.Tie as tie
 
 pub number-of-spec : {M : Type 1} → statement M
-number-of-spec =
-    tie.close (tie.spec (λ c. search needs) (λ c. search needs) (λ c. rw (c .enum-told .given .1)) (λ c. rw (c .enum-told2 .given .1)))
+number-of-spec = tie.close (tie.spec (λ c. search needs) (λ c. search needs) (λ c. rw (c .enum-told .given .1)) (λ c. rw (c .enum-told2 .given .1)))

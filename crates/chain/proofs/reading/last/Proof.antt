@@ -10,5 +10,6 @@ pub last-spec : {M : Type 1} → statement M
 unfolding lastAnswer
 last-spec =
     tie.close
-    (tie.spec (λ c κs. search needs) (λ c. let a = c .before .before .before .args in c .nothing .ensures ∙ sym (last-short (a .reader) (a .file .now) (a .used) (c .before .if1 .taken)))
-    (λ c κs. search needs) (λ c. c .read-at .ensures))
+    (tie.spec (λ c κs. search needs)
+    (λ c. let a = c .before .before .before .args in c .nothing .ensures ∙ sym (last-short (a .reader) (a .file .now) (a .used) (c .before .if1 .taken))) (λ c κs. search needs)
+    (λ c. c .read-at .ensures))

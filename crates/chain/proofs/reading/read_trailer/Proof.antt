@@ -15,9 +15,7 @@ returns-2 : tie.Need-returns-2
 returns-2 c =
     let told = c .before in
     let a = told .before .before .before .before .args in
-    c .passed .ensures ∙ trailer-unknown (a .reader) (a .file .now) (a .trailer) _ (told .before .before .known-to .ensures) (told .enum-told .given .1)
+    c .passed-by .ensures ∙ trailer-unknown (a .reader) (a .file .now) (a .trailer) _ (told .before .before .known-to .ensures) (told .enum-told .given .1)
 
 pub read-trailer-spec : {M : Type 1} → statement M
-read-trailer-spec =
-    tie.close
-    (tie.spec (λ c κs. search needs) (λ c. search needs) (λ c κs. search needs) (λ c. search needs) (λ c κs. search needs) returns returns-2)
+read-trailer-spec = tie.close (tie.spec (λ c κs. search needs) (λ c. search needs) (λ c κs. search needs) (λ c. search needs) (λ c κs. search needs) returns returns-2)

@@ -10,12 +10,6 @@ use Rattle.chain.proofs.Laws.Table.{labelled-checked, labelled-few, lab
 use Rattle.chain.proofs.table.check_labelled.Statement.{statement}
 use Rattle.chain.proofs.table.check_labelled.Tie as tie
 
-returns : tie.Need-returns
-returns c = labelled-refused (c .before .before .args .table .now) (c .if1 .taken)
-
-unlabelled-requires : tie.Need-unlabelled-requires
-unlabelled-requires c κs = omega (arith, labelled-few (c .before .before .args .table .now) (c .if1 .left))
-
 -- 16 tasks are 112 numbers
 array-share-prefix-sevens : tie.Need-array-share-prefix-sevens
 array-share-prefix-sevens c =
@@ -26,7 +20,8 @@ slice-aggregate-check-tasks : tie.Need-slice-aggregate-check-tasks
 slice-aggregate-check-tasks c =
     let a = c .before .before .before .before .args in
     let made = c .before in
-    let fits : length (a .table .now) / 8 * 7 ≤ length (made .unlabelled .result) = omega (arith, ap length (made .unlabelled .ensures) ∙ length-padded 112 (unlabelled (a .table .now)), labelled-few (a .table .now) (made .before .if1 .left)) in
+    let fits : length (a .table .now) / 8 * 7 ≤ length (made .unlabelled .result)
+    = omega (arith, ap length (made .unlabelled .ensures) ∙ length-padded 112 (unlabelled (a .table .now)), labelled-few (a .table .now) (made .before .if1 .left)) in
     sym (length-take-le _ _ fits)
 
 returns-2 : tie.Need-returns-2
@@ -38,4 +33,7 @@ returns-2 c =
 pub check-labelled-spec : {M : Type 1} → statement M
 check-labelled-spec =
     tie.close
-    (tie.spec returns unlabelled-requires (λ c. omega (arith, labelled-few (c .before .before .before .args .table .now) (c .before .if1 .left))) array-share-prefix-sevens slice-aggregate-check-tasks (λ c κs. search needs) returns-2)
+    (tie.spec (λ c. labelled-refused (c .before .before .args .table .now) (c .if1 .taken))
+    (λ c κs. omega (arith, labelled-few (c .before .before .args .table .now) (c .if1 .left)))
+    (λ c. omega (arith, labelled-few (c .before .before .before .args .table .now) (c .before .if1 .left))) array-share-prefix-sevens slice-aggregate-check-tasks
+    (λ c κs. search needs) returns-2)

@@ -46,5 +46,6 @@ returns c =
 pub decode-spec : {M : Type 1} → statement M
 decode-spec =
     tie.close
-    (tie.spec Inv-loop μ-loop (λ c κs. search needs) loop-holds (λ c. omega (arith, c .before .before .before .before .pre)) (λ c. omega (arith, c .before .before .before .before .pre))
-    (λ c κs. search needs) (λ c. omega (arith, c .before .before .before .before .before .pre)) array-write-out (λ c. omega (arith, c .before .before .before .before .before .pre)) (λ c. omega arith) loop-again returns)
+    (tie.spec Inv-loop μ-loop (λ c κs. search needs) loop-holds (λ c. omega (arith, c .before .before .before .before .pre))
+    (λ c. omega (arith, c .before .before .before .before .pre)) (λ c κs. search needs) (λ c. omega (arith, c .before .before .before .before .before .pre)) array-write-out
+    (λ c. omega (arith, c .before .before .before .before .before .pre)) (λ c. omega arith) loop-again returns)

@@ -37,5 +37,6 @@ returns c =
 pub unlabelled-spec : {M : Type 1} → statement M
 unlabelled-spec =
     tie.close
-    (tie.spec Inv-loop μ-loop (λ c. search needs) (λ c. laid-none 112 (unlabelled (c .args .table .now))) (λ c. omega (arith, c .before .before .pre)) (λ c. omega (arith, c .before .before .pre))
-    (λ c. omega (arith, c .before .before .pre)) (λ c. omega arith) (λ c. omega (arith, c .before .before .before .pre)) array-write-out (λ c. omega (arith, c .before .before .before .pre)) (λ c. omega arith) loop-again returns)
+    (tie.spec Inv-loop μ-loop (λ c. search needs) (λ c. laid-none 112 (unlabelled (c .args .table .now))) (λ c. omega (arith, c .before .before .pre))
+    (λ c. omega (arith, c .before .before .pre)) (λ c. omega (arith, c .before .before .pre)) (λ c. omega arith) (λ c. omega (arith, c .before .before .before .pre))
+    array-write-out (λ c. omega (arith, c .before .before .before .pre)) (λ c. omega arith) loop-again returns)

@@ -6,6 +6,4 @@ use Rattle.chain.proofs.trailer.check21.Statement.{statement}
 use Rattle.chain.proofs.trailer.check21.Tie as tie
 
 pub check21-spec : {M : Type 1} → statement M
-check21-spec =
-    tie.close
-    (tie.spec (λ c. short-21 _ _ _ (c .if1 .taken)) (λ c κs. search needs) (λ c. c .refuse .ensures ∙ whole-21 _ _ _ (c .before .if1 .left)))
+check21-spec = tie.close (tie.spec (λ c. short-21 _ _ _ (c .if1 .taken)) (λ c κs. search needs) (λ c. c .refuse .ensures ∙ whole-21 _ _ _ (c .before .if1 .left)))

@@ -4,12 +4,8 @@ use Rattle.chain.specs.Trailer.{trailerAt}
 use Rattle.chain.proofs.trailer.trailer_at.Statement.{statement}
 use Rattle.chain.proofs.trailer.trailer_at.Tie as tie
 
-returns : tie.Need-returns
-unfolding trailerAt
-returns c = cc
-
 pub trailer-at-spec : {M : Type 1} → statement M
+unfolding trailerAt
 trailer-at-spec =
     tie.close
-    (tie.spec (λ c κs. search needs) (λ c. search needs) (λ c κs. search needs) (λ c. search needs) (λ c κs. search needs) (λ c. search needs)
-    (λ c κs. search needs) returns)
+    (tie.spec (λ c κs. search needs) (λ c. search needs) (λ c κs. search needs) (λ c. search needs) (λ c κs. search needs) (λ c. search needs) (λ c κs. search needs) (λ c. cc))

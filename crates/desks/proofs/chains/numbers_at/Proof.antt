@@ -19,4 +19,9 @@ cast-x c =
 pub numbers-at-spec : {M : Type 1} → statement M
 numbers-at-spec =
     tie.close
-    (tie.spec Inv-loop μ-loop (search needs) (search needs) (search needs) (search needs) (search needs) (search needs) cast-x (search needs) (search needs) (search needs) (search needs) (search needs))
+    (tie.spec
+    Inv-loop
+    μ-loop
+    (search needs) (search needs) (search needs) (search needs) (search needs) (search needs)
+    cast-x
+    (search needs) (search needs) (search needs) (search needs) (search needs))

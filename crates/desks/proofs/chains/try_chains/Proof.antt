@@ -5,4 +5,10 @@ use Rattle.desks.proofs.chains.try_chains.Statement.{statement}
 use Rattle.desks.proofs.chains.try_chains.Tie as tie
 
 pub try-chains-spec : {M : Type 1} → statement M
-try-chains-spec = tie.close (tie.spec (λ _ _ _ _ _ _ _. 0 ≤ 0) (λ _ _ _ _ _ _ turn. 30 - turn) (search needs) (search needs) (search needs) (search needs) (search needs) (search needs) (search needs) (search needs) (search needs) (search needs) (search needs) (search needs) (search needs) (search needs) (search needs) (search needs) (search needs) (search needs) (search needs) (search needs))
+try-chains-spec = tie.close
+    (tie.spec
+    (λ _ _ _ _ _ _ _. 0 ≤ 0)
+    (λ _ _ _ _ _ _ turn. 30 - turn)
+    (search needs) (search needs) (search needs) (search needs) (search needs) (search needs) (search needs) (search needs) (search needs)
+    (search needs) (search needs) (search needs) (search needs) (search needs) (search needs) (search needs) (search needs) (search needs)
+    (search needs) (search needs))

@@ -5,4 +5,8 @@ use Rattle.desks.proofs.counts.alike.Statement.{statement}
 use Rattle.desks.proofs.counts.alike.Tie as tie
 
 pub alike-spec : {M : Type 1} → statement M
-alike-spec = tie.close (tie.spec (λ _ _ _ _ _ _ _ _. 0 ≤ 0) (λ _ _ _ _ _ _ _ i. 16384 - i) (search needs) (search needs) (search needs) (search needs) (search needs) (search needs) (search needs) (search needs) (search needs))
+alike-spec = tie.close
+    (tie.spec
+    (λ _ _ _ _ _ _ _ _. 0 ≤ 0)
+    (λ _ _ _ _ _ _ _ i. 16384 - i)
+    (search needs) (search needs) (search needs) (search needs) (search needs) (search needs) (search needs) (search needs) (search needs))

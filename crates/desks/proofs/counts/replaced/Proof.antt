@@ -6,4 +6,11 @@ use Rattle.desks.proofs.counts.replaced.Statement.{statement}
 use Rattle.desks.proofs.counts.replaced.Tie as tie
 
 pub replaced-spec : {M : Type 1} → statement M
-replaced-spec = tie.close (tie.spec (λ _ _ _ _ _ _ _ _ _ _ _ _ _ _ _ _. 0 ≤ 0) (λ _ _ _ _ _ _ _ _ _ _ _ _ _ _ _ i. 4370 - i) (λ c. search needs) (search needs) (search needs) (search needs) (search needs) (search needs) (search needs) (search needs) (search needs) (search needs) (search needs) (search needs) (search needs) (search needs) (search needs) (search needs) (search needs) (search needs) (search needs) (search needs) (search needs) (search needs) (omega arith) (search needs) (search needs) (search needs) (search needs) (omega arith) (search needs) (search needs))
+replaced-spec = tie.close
+    (tie.spec
+    (λ _ _ _ _ _ _ _ _ _ _ _ _ _ _ _ _. 0 ≤ 0)
+    (λ _ _ _ _ _ _ _ _ _ _ _ _ _ _ _ i. 4370 - i)
+    (λ c. search needs) (search needs) (search needs) (search needs) (search needs) (search needs) (search needs) (search needs)
+    (search needs) (search needs) (search needs) (search needs) (search needs) (search needs) (search needs) (search needs) (search needs)
+    (search needs) (search needs) (search needs) (search needs) (search needs) (omega arith) (search needs) (search needs) (search needs)
+    (search needs) (omega arith) (search needs) (search needs))

@@ -5,4 +5,9 @@ use Rattle.desks.proofs.seasons.after.Statement.{statement}
 use Rattle.desks.proofs.seasons.after.Tie as tie
 
 pub after-spec : {M : Type 1} → statement M
-after-spec = tie.close (tie.spec (λ _ _ _ _ _ _ _ _ _ _. 0 ≤ 0) (λ _ _ _ _ _ _ _ _ _ i. 10 - i) (search needs) (search needs) (search needs) (search needs) (search needs) (search needs) (search needs) (search needs) (search needs) (search needs))
+after-spec = tie.close
+    (tie.spec
+    (λ _ _ _ _ _ _ _ _ _ _. 0 ≤ 0)
+    (λ _ _ _ _ _ _ _ _ _ i. 10 - i)
+    (search needs) (search needs) (search needs) (search needs) (search needs) (search needs) (search needs) (search needs) (search needs)
+    (search needs))

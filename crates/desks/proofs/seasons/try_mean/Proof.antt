@@ -12,4 +12,10 @@ product {a} {b} l m =
     let q : b ≤ 4294967295 = omega arith in omega (arith, mul-le-mul p q)
 
 pub try-mean-spec : {M : Type 1} → statement M
-try-mean-spec = tie.close (tie.spec (search needs) (search needs) (search needs) (search needs) (search needs) (search needs) (search needs) (search needs) (search needs) (λ c. record { fits = product (search needs) (search needs) }) (search needs) (search needs) (search needs) (search needs) (search needs))
+try-mean-spec = tie.close
+    (tie.spec
+    (search needs)
+    (search needs)
+    (search needs) (search needs) (search needs) (search needs) (search needs) (search needs) (search needs)
+    (λ c. record { fits = product (search needs) (search needs) }) (search needs) (search needs) (search needs) (search needs)
+    (search needs))

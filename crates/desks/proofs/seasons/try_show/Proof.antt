@@ -5,4 +5,10 @@ use Rattle.desks.proofs.seasons.try_show.Statement.{statement}
 use Rattle.desks.proofs.seasons.try_show.Tie as tie
 
 pub try-show-spec : {M : Type 1} → statement M
-try-show-spec = tie.close (tie.spec (λ _ _ _ _ _ _ _ _ _ _ _. 0 ≤ 0) (λ _ _ _ _ _ _ _ _ _ _ i. 2448 - i) (search needs) (search needs) (search needs) (search needs) (search needs) (search needs) (search needs) (search needs) (search needs) (search needs) (search needs) (search needs) (search needs) (search needs) (search needs) (search needs) (search needs) (search needs) (search needs) (search needs))
+try-show-spec = tie.close
+    (tie.spec
+    (λ _ _ _ _ _ _ _ _ _ _ _. 0 ≤ 0)
+    (λ _ _ _ _ _ _ _ _ _ _ i. 2448 - i)
+    (search needs) (search needs) (search needs) (search needs) (search needs) (search needs) (search needs) (search needs) (search needs)
+    (search needs) (search needs) (search needs) (search needs) (search needs) (search needs) (search needs) (search needs) (search needs)
+    (search needs) (search needs))

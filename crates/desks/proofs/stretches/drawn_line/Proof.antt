@@ -5,4 +5,10 @@ use Rattle.desks.proofs.stretches.drawn_line.Statement.{statement}
 use Rattle.desks.proofs.stretches.drawn_line.Tie as tie
 
 pub drawn-line-spec : {M : Type 1} → statement M
-drawn-line-spec = tie.close (tie.spec (λ _ _ _ _ _ _ _ _ _ _ _. 0 ≤ 0) (λ _ _ _ _ end _ _ _ _ _ t. end - t) (search needs) (search needs) (search needs) (search needs) (search needs) (search needs) (search needs) (search needs) (search needs) (search needs) (search needs) (search needs) (search needs) (search needs) (search needs) (search needs) (search needs) (search needs) (search needs) (search needs) (search needs))
+drawn-line-spec = tie.close
+    (tie.spec
+    (λ _ _ _ _ _ _ _ _ _ _ _. 0 ≤ 0)
+    (λ _ _ _ _ end _ _ _ _ _ t. end - t)
+    (search needs) (search needs) (search needs) (search needs) (search needs) (search needs) (search needs) (search needs) (search needs)
+    (search needs) (search needs) (search needs) (search needs) (search needs) (search needs) (search needs) (search needs) (search needs)
+    (search needs) (search needs) (search needs))

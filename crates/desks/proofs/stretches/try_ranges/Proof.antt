@@ -5,4 +5,10 @@ use Rattle.desks.proofs.stretches.try_ranges.Statement.{statement}
 use Rattle.desks.proofs.stretches.try_ranges.Tie as tie
 
 pub try-ranges-spec : {M : Type 1} → statement M
-try-ranges-spec = tie.close (tie.spec (λ _ _ _ _ _ _ _ _ _ _ _. 0 ≤ 0) (λ _ _ _ _ _ _ n _ _ _ q. n - q) (search needs) (search needs) (search needs) (search needs) (search needs) (search needs) (search needs) (search needs) (search needs) (search needs) (search needs) (search needs) (search needs) (search needs) (search needs) (search needs) (search needs) (search needs) (search needs) (search needs) (search needs) (search needs) (search needs))
+try-ranges-spec = tie.close
+    (tie.spec
+    (λ _ _ _ _ _ _ _ _ _ _ _. 0 ≤ 0)
+    (λ _ _ _ _ _ _ n _ _ _ q. n - q)
+    (search needs) (search needs) (search needs) (search needs) (search needs) (search needs) (search needs) (search needs) (search needs)
+    (search needs) (search needs) (search needs) (search needs) (search needs) (search needs) (search needs) (search needs) (search needs)
+    (search needs) (search needs) (search needs) (search needs) (search needs))

@@ -5,4 +5,10 @@ use Rattle.desks.proofs.stretches.try_replacements.Statement.{statement
 use Rattle.desks.proofs.stretches.try_replacements.Tie as tie
 
 pub try-replacements-spec : {M : Type 1} → statement M
-try-replacements-spec = tie.close (tie.spec (λ _ _ _ _ _ _ _ _ _ _ _ _ _. 0 ≤ 0) (λ _ _ _ _ _ _ _ times _ _ _ _ i. times - i) (search needs) (search needs) (search needs) (search needs) (search needs) (search needs) (search needs) (search needs) (search needs) (search needs) (search needs) (search needs) (search needs) (search needs) (search needs) (search needs) (search needs) (search needs) (search needs) (search needs))
+try-replacements-spec = tie.close
+    (tie.spec
+    (λ _ _ _ _ _ _ _ _ _ _ _ _ _. 0 ≤ 0)
+    (λ _ _ _ _ _ _ _ times _ _ _ _ i. times - i)
+    (search needs) (search needs) (search needs) (search needs) (search needs) (search needs) (search needs) (search needs) (search needs)
+    (search needs) (search needs) (search needs) (search needs) (search needs) (search needs) (search needs) (search needs) (search needs)
+    (search needs) (search needs))

@@ -5,4 +5,9 @@ use Rattle.desks.proofs.windows.try_windows.Statement.{statement}
 use Rattle.desks.proofs.windows.try_windows.Tie as tie
 
 pub try-windows-spec : {M : Type 1} → statement M
-try-windows-spec = tie.close (tie.spec (λ _ _ _ _ _ _ _ _ _. 0 ≤ 0) (λ _ _ _ _ _ _ _ _ i. 24 - i) (search needs) (search needs) (search needs) (search needs) (search needs) (search needs) (search needs) (search needs) (search needs) (search needs) (search needs) (search needs) (search needs) (search needs) (search needs))
+try-windows-spec = tie.close
+    (tie.spec
+    (λ _ _ _ _ _ _ _ _ _. 0 ≤ 0)
+    (λ _ _ _ _ _ _ _ _ i. 24 - i)
+    (search needs) (search needs) (search needs) (search needs) (search needs) (search needs) (search needs) (search needs) (search needs)
+    (search needs) (search needs) (search needs) (search needs) (search needs) (search needs))

@@ -5,4 +5,8 @@ use Rattle.drawn.proofs.judge.tasks_key.Statement.{statement}
 use Rattle.drawn.proofs.judge.tasks_key.Tie as tie
 
 pub tasks-key-spec : {M : Type 1} → statement M
-tasks-key-spec = tie.close (tie.spec (λ _ _ _ _ _ _. 0 ≤ 0) (λ _ _ _ _ _ k. 16 - k) (search needs) (search needs) (search needs) (search needs) (search needs) (search needs) (search needs) (search needs) (search needs))
+tasks-key-spec = tie.close
+    (tie.spec
+    (λ _ _ _ _ _ _. 0 ≤ 0)
+    (λ _ _ _ _ _ k. 16 - k)
+    (search needs) (search needs) (search needs) (search needs) (search needs) (search needs) (search needs) (search needs) (search needs))

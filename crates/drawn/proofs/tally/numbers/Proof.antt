@@ -5,4 +5,9 @@ use Rattle.drawn.proofs.tally.numbers.Statement.{statement}
 use Rattle.drawn.proofs.tally.numbers.Tie as tie
 
 pub numbers-spec : {M : Type 1} → statement M
-numbers-spec = tie.close (tie.spec (λ _ _ _ _ _ _ _. 0 ≤ 0) (λ _ _ n _ _ _ i. n - i) (search needs) (search needs) (search needs) (search needs) (search needs) (search needs) (search needs) (search needs) (search needs) (search needs) (search needs) (search needs))
+numbers-spec = tie.close
+    (tie.spec
+    (λ _ _ _ _ _ _ _. 0 ≤ 0)
+    (λ _ _ n _ _ _ i. n - i)
+    (search needs) (search needs) (search needs) (search needs) (search needs) (search needs) (search needs) (search needs) (search needs)
+    (search needs) (search needs) (search needs))

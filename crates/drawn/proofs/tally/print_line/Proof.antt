@@ -5,4 +5,9 @@ use Rattle.drawn.proofs.tally.print_line.Statement.{statement}
 use Rattle.drawn.proofs.tally.print_line.Tie as tie
 
 pub print-line-spec : {M : Type 1} → statement M
-print-line-spec = tie.close (tie.spec (λ _ _ _ _ _ _. 0 ≤ 0) (λ _ n _ _ _ i. n - i) (search needs) (search needs) (search needs) (search needs) (search needs) (search needs) (search needs) (search needs) (search needs) (search needs) (search needs) (search needs) (search needs))
+print-line-spec = tie.close
+    (tie.spec
+    (λ _ _ _ _ _ _. 0 ≤ 0)
+    (λ _ n _ _ _ i. n - i)
+    (search needs) (search needs) (search needs) (search needs) (search needs) (search needs) (search needs) (search needs) (search needs)
+    (search needs) (search needs) (search needs) (search needs))

@@ -2,9 +2,10 @@
 use mathlib.Core.Path.{sym, _∙_}
 use native.Mathlib.Omega.{arith}
 use borrow.Author.Needs.{needs}
+use Rattle.tables.proofs.Laws.Refusals.{before-passes, before-stops}
 use Rattle.index.specs.Answers.{replaceAnswer}
 use Rattle.index.proofs.Laws.Answers.{placed-given, placed-length, placed-tick}
-use Rattle.index.proofs.Laws.Refusals.{before-done, before-refused, given-checked, given-whole, sized}
+use Rattle.index.proofs.Laws.Refusals.{given-checked, given-whole, sized}
 use Rattle.index.proofs.changes.check_replace.Statement.{statement}
 use Rattle.index.proofs.changes.check_replace.Tie as tie
 
@@ -26,15 +27,11 @@ unfolding replaceAnswer
 returns c =
     let told = c .before .before in
     let ok = sym (told .before .before .check-placed .ensures) ∙ told .enum-told .given .1 in
-    c .check-change .ensures ∙ sym (before-done _ _ ok)
-
-returns-2 : tie.Need-returns-2
-unfolding replaceAnswer
-returns-2 c =
-    let told = c .before in
-    sym (before-refused _ _ _ _ (sym (told .before .before .check-placed .ensures) ∙ told .placed .given .1))
+    c .check-change .ensures ∙ sym (before-passes _ _ ok)
 
 pub check-replace-spec : {M : Type 1} → statement M
+unfolding replaceAnswer
 check-replace-spec =
     tie.close
-    (tie.spec (λ c κs. search needs) (λ c. search needs) (λ c. search needs) shared-slice-read-check-change check-change-requires (λ c. search needs) returns returns-2)
+    (tie.spec (λ c κs. search needs) (λ c. search needs) (λ c. search needs) shared-slice-read-check-change check-change-requires (λ c. search needs) returns
+    (λ c. sym (before-stops _ _ _ _ (sym (c .before .before .before .check-placed .ensures) ∙ c .before .placed .given .1))))

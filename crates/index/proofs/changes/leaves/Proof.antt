@@ -5,9 +5,6 @@ use Rattle.index.specs.Refusals.{leaves}
 use Rattle.index.proofs.changes.leaves.Statement.{statement}
 use Rattle.index.proofs.changes.leaves.Tie as tie
 
-returns : tie.Need-returns
-unfolding leaves
-returns c = refl
-
 pub leaves-spec : {M : Type 1} → statement M
-leaves-spec = tie.close (tie.spec (λ c. search needs) (λ c. search needs) returns)
+unfolding leaves
+leaves-spec = tie.close (tie.spec (λ c. search needs) (λ c. search needs) (λ c. refl))

@@ -5,7 +5,7 @@ use native.Mathlib.Omega.{arith}
 use lib.ListN.{length-set}
 use borrow.Author.Needs.{needs}
 use Rattle.index.specs.Rows.{rowCount}
-use Rattle.index.proofs.Laws.Changes.{Moving, moving-all, moving-none, moving-same, turn-gains, turn-loses, turn-moves, turn-place}
+use Rattle.index.proofs.Laws.Changes.{Moving, Turn, moving-all, moving-none, moving-same, turn}
 use Rattle.index.proofs.changes.move_rows.Statement.{statement}
 use Rattle.index.proofs.changes.move_rows.Tie as tie
 
@@ -32,66 +32,32 @@ row-at-requires c κs =
     let size = at .before .before .before .before .before .before .pre .0 in
     (size .few, omega (arith, size .short, c .loop-test .taken, at .before .before .row-count .ensures))
 
+-- what the row's turn is, where it begins
+turned : (c : tie.After-row-at Inv-loop μ-loop)
+    → let at = c .before .before in let a = at .before .before .before .before .before .before .args in
+    Turn (a .tasks .now) (a .horizon) (a .index .now) (a .tick) (a .old) (a .new) (at .loop .index) (at .loop .row) (c .row-at .result)
+turned c =
+    let at = c .before .before in
+    let start = at .before .before .before .before .before .before in
+    let there : at .loop .row < rowCount (start .args .horizon) = omega (arith, c .before .loop-test .taken, at .before .before .row-count .ensures) in
+    turn _ _ _ _ _ _ (start .pre .0) (start .pre .1 .0 .0) (start .pre .1 .0 .1) (at .before .before .before .if1 .left) (start .pre .1 .1) _ _ _
+    (at .loop .inv .1) there (at .loop .inv .0) (c .row-at .ensures .0)
+
 slice-read-index : tie.Need-slice-read-index Inv-loop μ-loop
 slice-read-index c =
-    let begins = c .before in
-    let test = begins .before in
-    let at = test .before in
-    let start = at .before .before .before .before .before .before in
-    let a = start .args in
-    let there : at .loop .row < rowCount (a .horizon) = omega (arith, test .loop-test .taken, at .before .before .row-count .ensures) in
-    turn-place (a .tasks .now) (a .horizon) (a .index .now) (a .tick) (a .old) (a .new) (start .pre .0) (start .pre .1 .0 .0) (start .pre .1 .0 .1) (at .before .before .before .if1 .left) (start .pre .1 .1) (at .loop .index) (at .loop .row)
-    (begins .row-at .result) (at .loop .inv .1) there (at .loop .inv .0) (begins .row-at .ensures .0) (a .old) (start .pre .1 .0 .0)
+    let start = c .before .before .before .before .before .before .before .before .before in
+    turned (c .before) .place (start .args .old) (start .pre .1 .0 .0)
 
-sub-index : tie.Need-sub-index Inv-loop μ-loop
-sub-index c =
-    let begins = c .before in
-    let test = begins .before in
-    let at = test .before in
-    let start = at .before .before .before .before .before .before in
-    let a = start .args in
-    let there : at .loop .row < rowCount (a .horizon) = omega (arith, test .loop-test .taken, at .before .before .row-count .ensures) in
-    let least = turn-loses (a .tasks .now) (a .horizon) (a .index .now) (a .tick) (a .old) (a .new) (start .pre .0) (start .pre .1 .0 .0) (start .pre .1 .0 .1) (at .before .before .before .if1 .left) (start .pre .1 .1) (at .loop .index) (at .loop .row)
-    (begins .row-at .result) (at .loop .inv .1) there (at .loop .inv .0) (begins .row-at .ensures .0) in
-    omega arith
-
--- the new column's place, too
 slice-read-index-2 : tie.Need-slice-read-index-2 Inv-loop μ-loop
 slice-read-index-2 c =
-    let begins = c .before .before in
-    let test = begins .before in
-    let at = test .before in
-    let start = at .before .before .before .before .before .before in
-    let a = start .args in
-    let there : at .loop .row < rowCount (a .horizon) = omega (arith, test .loop-test .taken, at .before .before .row-count .ensures) in
-    let place = turn-place (a .tasks .now) (a .horizon) (a .index .now) (a .tick) (a .old) (a .new) (start .pre .0) (start .pre .1 .0 .0) (start .pre .1 .0 .1) (at .before .before .before .if1 .left) (start .pre .1 .1) (at .loop .index) (at .loop .row)
-    (begins .row-at .result) (at .loop .inv .1) there (at .loop .inv .0) (begins .row-at .ensures .0) (a .new) (start .pre .1 .0 .1) in
+    let start = c .before .before .before .before .before .before .before .before .before .before in
+    let place = turned (c .before .before) .place (start .args .new) (start .pre .1 .0 .1) in
     simp length-set (omega arith)
 
 add-index-3 : tie.Need-add-index-3 Inv-loop μ-loop
 add-index-3 c =
-    let begins = c .before .before in
-    let test = begins .before in
-    let at = test .before in
-    let start = at .before .before .before .before .before .before in
-    let a = start .args in
-    let there : at .loop .row < rowCount (a .horizon) = omega (arith, test .loop-test .taken, at .before .before .row-count .ensures) in
-    let most = turn-gains (a .tasks .now) (a .horizon) (a .index .now) (a .tick) (a .old) (a .new) (start .pre .0) (start .pre .1 .0 .0) (start .pre .1 .0 .1) (at .before .before .before .if1 .left) (start .pre .1 .1) (at .loop .index) (at .loop .row)
-    (begins .row-at .result) (at .loop .inv .1) there (at .loop .inv .0) (begins .row-at .ensures .0) in
-    omega (arith, most, start .pre .0 .short)
-
-loop-again : tie.Need-loop-again Inv-loop μ-loop
-loop-again c =
-    let begins = c .before .before in
-    let test = begins .before in
-    let at = test .before in
-    let start = at .before .before .before .before .before .before in
-    let a = start .args in
-    let there : at .loop .row < rowCount (a .horizon) = omega (arith, test .loop-test .taken, at .before .before .row-count .ensures) in (
-      omega (arith, at .loop .inv .0),
-      turn-moves (a .tasks .now) (a .horizon) (a .index .now) (a .tick) (a .old) (a .new) (start .pre .0) (start .pre .1 .0 .0) (start .pre .1 .0 .1) (at .before .before .before .if1 .left) (start .pre .1 .1) (at .loop .index) (at .loop .row)
-          (begins .row-at .result) (at .loop .inv .1) there (at .loop .inv .0) (begins .row-at .ensures .0),
-    )
+    let size = c .before .before .before .before .before .before .before .before .before .before .pre .0 in
+    omega (arith, turned (c .before .before) .gains, size .short)
 
 returns-2 : tie.Need-returns-2 Inv-loop μ-loop
 returns-2 c =
@@ -105,6 +71,9 @@ pub move-rows-spec : {M : Type 1} → statement M
 move-rows-spec =
     tie.close
     (tie.spec Inv-loop μ-loop returns (λ c κs. search needs) (λ c κs. search needs) loop-holds row-at-requires
-    (λ c. omega (arith, c .before .before .before .before .before .before .before .before .pre)) (λ c. omega (arith, c .before .before .before .before .before .before .before .before .pre)) slice-read-index sub-index slice-read-index
-    (λ c. omega (arith, c .before .before .before .before .before .before .before .before .before .pre)) (λ c. omega (arith, c .before .before .before .before .before .before .before .before .before .pre)) slice-read-index-2 add-index-3 slice-read-index-2
-    (λ c. omega (arith, c .before .before .before .loop-test .taken)) (λ c. omega (arith, c .before .before .before .loop-test .taken)) loop-again (λ c. c .before .loop .inv .1 .size) returns-2)
+    (λ c. omega (arith, c .before .before .before .before .before .before .before .before .pre))
+    (λ c. omega (arith, c .before .before .before .before .before .before .before .before .pre)) slice-read-index (λ c. omega (arith, turned (c .before) .loses))
+    slice-read-index (λ c. omega (arith, c .before .before .before .before .before .before .before .before .before .pre))
+    (λ c. omega (arith, c .before .before .before .before .before .before .before .before .before .pre)) slice-read-index-2 add-index-3 slice-read-index-2
+    (λ c. omega (arith, c .before .before .before .loop-test .taken)) (λ c. omega (arith, c .before .before .before .loop-test .taken))
+    (λ c. (omega (arith, c .before .before .before .before .loop .inv .0), turned (c .before .before) .moves)) (λ c. c .before .loop .inv .1 .size) returns-2)

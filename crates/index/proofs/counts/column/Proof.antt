@@ -8,10 +8,6 @@ use Rattle.index.specs.Counts.{column}
 use Rattle.index.proofs.counts.column.Statement.{statement}
 use Rattle.index.proofs.counts.column.Tie as tie
 
-returns : tie.Need-returns
-unfolding column taskCount
-returns c = rw (eq-eqb (c .before .before .before .args .entry) 65535 (c .if1 .taken))
-
 returns-2 : tie.Need-returns-2
 unfolding column
 returns-2 c =
@@ -19,4 +15,5 @@ returns-2 c =
     rw (ne-eqb (call .before .before .before .before .args .entry) 65535 (call .before .if1 .left)) (ap (λ (j : Job). j .task) (call .job-at .ensures))
 
 pub column-spec : {M : Type 1} → statement M
-column-spec = tie.close (tie.spec (λ c κs. search needs) (λ c. search needs) returns returns-2)
+unfolding column taskCount
+column-spec = tie.close (tie.spec (λ c κs. search needs) (λ c. search needs) (λ c. rw (eq-eqb (c .before .before .before .args .entry) 65535 (c .if1 .taken))) returns-2)

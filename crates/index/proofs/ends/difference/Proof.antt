@@ -20,13 +20,6 @@ cast-t16 c =
     let few = start .fits .horizon .fits in
     omega (arith, difference-fine (a .horizon) (a .first) (a .second) (test .if1 .left))
 
-returns : tie.Need-returns
-unfolding difference refuse unless
-returns c = rw (c .if1 .taken)
-
-returns-2 : tie.Need-returns-2
-unfolding difference refuse unless
-returns-2 c = rw (c .before .before .if1 .left)
-
 pub difference-spec : {M : Type 1} → statement M
-difference-spec = tie.close (tie.spec sub-t15 cast-t16 returns returns-2)
+unfolding difference refuse unless
+difference-spec = tie.close (tie.spec sub-t15 cast-t16 (λ c. rw (c .if1 .taken)) (λ c. rw (c .before .before .if1 .left)))

@@ -7,9 +7,9 @@ use lib.ListN.{getD}
 use borrow.Author.Needs.{needs}
 use Rattle.tables.specs.Tables.{lists}
 use Rattle.index.specs.declared.counts.Tally.{Tally}
-use Rattle.index.specs.Counts.{part}
-use Rattle.index.specs.Rows.{numberAt}
-use Rattle.index.proofs.Laws.Counts.{ticks-part-most}
+use Rattle.index.specs.Counts.{entriesBetween}
+use Rattle.index.specs.Rows.{indexNumber}
+use Rattle.index.proofs.Laws.Counts.{ticks-between-most}
 use Rattle.index.proofs.ends.end_at.Statement.{statement}
 use Rattle.index.proofs.ends.end_at.Tie as tie
 
@@ -19,18 +19,18 @@ cast-t18 c =
     omega (arith, c .shared-slice-known5 .given (c .before .row-at .result + a .c))
 
 add-t19 : tie.Need-add-t19
-unfolding part
+unfolding entriesBetween
 add-t19 c =
     let known = c .before in
     let row = known .before in
     let read = row .before in
     let start = read .before .before .before .before .before .before in
     let a = start .args in
-    let most = ticks-part-most (lists (a .tasks .now) (a .jobs .now)) (a .c) (a .schedule .now) (a .row * 64) (a .t) in
+    let most = ticks-between-most (lists (a .tasks .now) (a .jobs .now)) (a .c) (a .schedule .now) (a .row * 64) (a .t) in
     omega (arith, known .shared-slice-known5 .given (row .row-at .result + a .c), ap (λ (x : Tally). x .ticks) (read .ticks-of .ensures), start .pre .1 .0)
 
 returns : tie.Need-returns
-unfolding numberAt part
+unfolding indexNumber entriesBetween
 returns c =
     let row = c .before .before in
     let read = row .before in

@@ -6,7 +6,7 @@ use lib.Dec.{eqb}
 use borrow.Author.Needs.{needs}
 use Rattle.tables.specs.Refusals.{refuse}
 use Rattle.index.specs.Refusals.{checkLength}
-use Rattle.index.specs.Rows.{width}
+use Rattle.index.specs.Rows.{rowWidth}
 use Rattle.index.proofs.refusals.check_length.Statement.{statement}
 use Rattle.index.proofs.refusals.check_length.Tie as tie
 
@@ -15,7 +15,7 @@ unfolding checkLength
 returns c =
     let row = c .before in
     let a = row .before .before .before .args in
-    let whole = row .row-at .ensures .0 ∙ ap (λ (n : ℕ). n * width (a .tasks .now)) (row .before .row-count .ensures) in
+    let whole = row .row-at .ensures .0 ∙ ap (λ (n : ℕ). n * rowWidth (a .tasks .now)) (row .before .row-count .ensures) in
     c .refuse .ensures ∙ ap (λ (n : ℕ). refuse (not (eqb (a .numbers) n)) 16 0) whole
 
 pub check-length-spec : {M : Type 1} → statement M

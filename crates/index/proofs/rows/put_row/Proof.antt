@@ -51,4 +51,7 @@ pub put-row-spec : {M : Type 1} → statement M
 unfolding taskCount
 put-row-spec =
     tie.close
-    (tie.spec Inv-loop μ-loop (λ c. search needs) (λ c κs. search needs) (λ c. (omega arith, refl, paste-zero (c .before .before .before .args .index .now) (c .row-at .result) (c .before .before .before .args .t2))) (λ c. omega arith) (λ c. omega arith) (λ c. omega arith) (λ c. omega (arith, slice-write-index c)) slice-write-index (λ c. omega arith) (λ c. omega arith) loop-again (λ c. c .before .loop .inv .1) returns)
+    (tie.spec Inv-loop μ-loop (λ c. search needs) (λ c κs. search needs)
+    (λ c. (omega arith, refl, paste-zero (c .before .before .before .args .index .now) (c .row-at .result) (c .before .before .before .args .t2))) (λ c. omega arith)
+    (λ c. omega arith) (λ c. omega arith) (λ c. omega (arith, slice-write-index c)) slice-write-index (λ c. omega arith) (λ c. omega arith) loop-again
+    (λ c. c .before .loop .inv .1) returns)

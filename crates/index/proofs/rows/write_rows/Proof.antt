@@ -7,10 +7,10 @@ use lib.ListN.{drop, length, take}
 use borrow.Author.Needs.{needs}
 use Rattle.tables.specs.Tables.{lists}
 use Rattle.index.specs.Code.{countsOf}
-use Rattle.index.specs.Counts.{given}
+use Rattle.index.specs.Counts.{plan}
 use Rattle.index.specs.Refusals.{builtFrom}
-use Rattle.index.specs.Rows.{indexOf, rowCount, rowNumber, table, width}
-use Rattle.index.proofs.Laws.Counts.{counts-none, known-take}
+use Rattle.index.specs.Rows.{indexOf, rowCount, rowNumber, rowByRow, rowWidth}
+use Rattle.index.proofs.Laws.Counts.{counts-none, jobs-or-idle-take}
 use Rattle.index.proofs.Laws.Rows.{last-written, row-of-counts, row-within, row-written, rows-none}
 use Rattle.index.proofs.rows.write_rows.Statement.{statement}
 use Rattle.index.proofs.rows.write_rows.Tie as tie
@@ -18,21 +18,18 @@ use Rattle.index.proofs.rows.write_rows.Tie as tie
 abbrev Inv-loop : tie.InvT-loop
 Inv-loop tasks jobs horizon schedule index₀ last counts₀ r₀ index counts r =
     (r ≤ last) × (length index ≡ length index₀)
-    × (index ≡ table (width tasks) r (rowNumber (given tasks jobs horizon) schedule) ++ drop (r * width tasks) index₀)
+    × (index ≡ rowByRow (rowWidth tasks) r (rowNumber (plan tasks jobs horizon) schedule) ++ drop (r * rowWidth tasks) index₀)
     × (counts ≡ countsOf (lists tasks jobs) (take (r * 64) schedule))
 
 abbrev μ-loop : tie.MeasureT-loop
 μ-loop tasks jobs horizon schedule index₀ last counts₀ r₀ index counts r = last - r
-
-loop-holds : tie.Need-loop-holds Inv-loop μ-loop
-loop-holds c = (omega arith, refl, rows-none _ _ _, sym (counts-none _))
 
 -- row r is within the index
 put-row-requires : tie.Need-put-row-requires Inv-loop μ-loop
 put-row-requires c κs =
     let at = c .before .before in
     let start = at .before .before .before .before .before in
-    let w = width (start .args .tasks .now) in
+    let w = rowWidth (start .args .tasks .now) in
     let size = start .pre .1 .0 in
     let room = row-within w (rowCount (start .args .horizon)) (at .loop .r) (omega (arith, c .before .loop-test .taken)) in
     ((size .few, omega (arith, size .short, c .before .loop-test .taken)), omega (arith, room, size .indexed, at .loop .inv .1))
@@ -53,7 +50,7 @@ count-on-requires c κs =
         at .loop .inv .3,
         (
           (omega (arith, test .loop-test .taken, whole), omega (arith, size .short, whole)),
-          known-take (a .jobs .now) (a .schedule .now) (h / 64 * 64) ((at .loop .r + 1) * 64) (start .pre .1 .1 .1) (omega (arith, test .loop-test .taken)),
+          jobs-or-idle-take (a .jobs .now) (a .schedule .now) (h / 64 * 64) ((at .loop .r + 1) * 64) (start .pre .1 .1 .1) (omega (arith, test .loop-test .taken)),
         ),
       ),
     )
@@ -65,8 +62,8 @@ loop-again c =
     let at = test .before in
     let start = at .before .before .before .before .before in
     let a = start .args in
-    let g = given (a .tasks .now) (a .jobs .now) (a .horizon) in
-    let w = width (a .tasks .now) in
+    let g = plan (a .tasks .now) (a .jobs .now) (a .horizon) in
+    let w = rowWidth (a .tasks .now) in
     let r = at .loop .r in
     let few : w ≤ 17 = omega (arith, start .pre .0 .few) in
     let row = ap (take w) (at .loop .inv .3) ∙ row-of-counts g (a .schedule .now) r w few in (
@@ -80,13 +77,10 @@ put-row-requires-2 : tie.Need-put-row-requires-2 Inv-loop μ-loop
 put-row-requires-2 c κs =
     let at = c .before .before in
     let start = at .before .before .before .before .before in
-    let w = width (start .args .tasks .now) in
+    let w = rowWidth (start .args .tasks .now) in
     let size = start .pre .1 .0 in
     let room = row-within w (rowCount (start .args .horizon)) (start .args .horizon / 64) (omega arith) in
     ((size .few, omega (arith, size .short)), omega (arith, room, size .indexed, at .loop .inv .1))
-
-same-length : tie.Need-same-length Inv-loop μ-loop
-same-length c = c .before .index2 .given ∙ c .before .before .before .before .before .loop .inv .1
 
 returns : tie.Need-returns Inv-loop μ-loop
 unfolding indexOf
@@ -95,8 +89,8 @@ returns c =
     let at = put .before .before .before in
     let start = at .before .before .before .before .before in
     let a = start .args in
-    let g = given (a .tasks .now) (a .jobs .now) (a .horizon) in
-    let w = width (a .tasks .now) in
+    let g = plan (a .tasks .now) (a .jobs .now) (a .horizon) in
+    let w = rowWidth (a .tasks .now) in
     let r = at .loop .r in
     let few : w ≤ 17 = omega (arith, start .pre .0 .few) in
     let row = ap (take w) (at .loop .inv .3) ∙ row-of-counts g (a .schedule .now) r w few in
@@ -107,4 +101,6 @@ returns c =
 pub write-rows-spec : {M : Type 1} → statement M
 write-rows-spec =
     tie.close
-    (tie.spec Inv-loop μ-loop (λ c. search needs) loop-holds put-row-requires count-on-requires (λ c. omega (arith, c .before .before .before .before .before .loop-test .taken)) (λ c. omega (arith, c .before .before .before .before .before .loop-test .taken)) loop-again put-row-requires-2 same-length returns)
+    (tie.spec Inv-loop μ-loop (λ c. search needs) (λ c. (omega arith, refl, rows-none _ _ _, sym (counts-none _))) put-row-requires count-on-requires
+    (λ c. omega (arith, c .before .before .before .before .before .loop-test .taken)) (λ c. omega (arith, c .before .before .before .before .before .loop-test .taken))
+    loop-again put-row-requires-2 (λ c. c .before .index2 .given ∙ c .before .before .before .before .before .loop .inv .1) returns)

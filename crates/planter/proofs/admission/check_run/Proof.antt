@@ -4,7 +4,7 @@ use mathlib.Core.Path.{ap₂, refl, sym, _∙_}
 use borrow.Author.Needs.{needs}
 use Rattle.tables.specs.Refusals.{before}
 use Rattle.tables.specs.Tables.{lists}
-use Rattle.zsrm.proofs.Laws.Answers.{schedule-checked}
+use Rattle.tables.proofs.Laws.Accepted.{schedule-checked}
 use Rattle.planter.specs.Table.{table}
 use Rattle.planter.proofs.admission.check_run.Statement.{statement}
 use Rattle.planter.proofs.admission.check_run.Tie as tie

@@ -1,7 +1,7 @@
 -- Each list's verdicts are those at its run's record.
 use native.Mathlib.Omega.{arith}
 use borrow.Author.Needs.{needs}
-use Rattle.planter.proofs.Changes.{admission-made, longer-few}
+use Rattle.planter.proofs.Laws.Changes.{admission-made, longer-few}
 use Rattle.planter.proofs.admission.compared.Statement.{statement}
 use Rattle.planter.proofs.admission.compared.Tie as tie
 

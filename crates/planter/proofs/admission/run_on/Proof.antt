@@ -4,12 +4,9 @@ use native.Mathlib.Omega.{arith}
 use lib.Seq.{length-take-le}
 use borrow.Author.Needs.{needs}
 use Rattle.planter.specs.Table.{planter}
-use Rattle.planter.proofs.Pieces.{way-on}
+use Rattle.planter.proofs.Laws.Pieces.{way-on}
 use Rattle.planter.proofs.admission.run_on.Statement.{statement}
 use Rattle.planter.proofs.admission.run_on.Tie as tie
-
-slice-aggregate-go-on : tie.Need-slice-aggregate-go-on
-slice-aggregate-go-on c = sym (length-take-le _ _ (omega (arith, c .before .piece .ensures .2)))
 
 returns : tie.Need-returns
 returns c =
@@ -22,11 +19,5 @@ returns c =
 pub run-on-spec : {M : Type 1} → statement M
 run-on-spec =
     tie.close
-    (tie.spec
-    (λ c. search needs)
-    (λ c κs. search needs)
-    (λ c. search needs)
-    (λ c. search needs)
-    slice-aggregate-go-on
-    (λ c κs. search needs)
-    returns)
+    (tie.spec (λ c. search needs) (λ c κs. search needs) (λ c. search needs) (λ c. search needs) (λ c. sym (length-take-le _ _ (omega (arith, c .before .piece .ensures .2))))
+    (λ c κs. search needs) returns)

@@ -4,7 +4,7 @@ use native.Mathlib.Omega.{arith}
 use borrow.Author.Needs.{needs}
 use Rattle.planter.specs.Code.{OnTheWay}
 use Rattle.planter.specs.Table.{planter}
-use Rattle.planter.proofs.Pieces.{way-ends, way-starts}
+use Rattle.planter.proofs.Laws.Pieces.{way-ends, way-starts}
 use Rattle.planter.proofs.admission.run_to.Statement.{statement}
 use Rattle.planter.proofs.admission.run_to.Tie as tie
 
@@ -19,9 +19,6 @@ loop-holds c =
     let start = c .before .before .before in
     way-starts (planter (start .args .mode) (start .args .jobs .now)) (start .args .horizon) (start .pre) (c .before .fresh .result) (c .before .fresh .ensures)
 
-run-on-requires : tie.Need-run-on-requires Inv-loop μ-loop
-run-on-requires c κs = let start = c .before .before .before .before .before .before in (start .pre, (c .before .before .loop .inv, search needs))
-
 returns : tie.Need-returns Inv-loop μ-loop
 returns c =
     let start = c .before .before .before .before .before .before in
@@ -31,12 +28,6 @@ returns c =
 pub run-to-spec : {M : Type 1} → statement M
 run-to-spec =
     tie.close
-    (tie.spec
-    Inv-loop
-    μ-loop
-    (λ c κs. search needs)
-    loop-holds
-    run-on-requires
-    (λ c. omega (arith, c .run-on .ensures .1))
-    (λ c. c .run-on .ensures .0)
-    returns)
+    (tie.spec Inv-loop μ-loop (λ c κs. search needs) loop-holds
+    (λ c κs. let start = c .before .before .before .before .before .before in (start .pre, (c .before .before .loop .inv, search needs)))
+    (λ c. omega (arith, c .run-on .ensures .1)) (λ c. c .run-on .ensures .0) returns)

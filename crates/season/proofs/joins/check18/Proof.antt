@@ -4,9 +4,6 @@ use Rattle.season.specs.Reports.{check18}
 use Rattle.season.proofs.joins.check18.Statement.{statement}
 use Rattle.season.proofs.joins.check18.Tie as tie
 
-returns : tie.Need-returns
-unfolding check18
-returns c = rw (c .before .all-fit .ensures) at (c .refuse .ensures)
-
 pub check18-spec : {M : Type 1} → statement M
-check18-spec = tie.close (tie.spec (λ c κs. search needs) (λ c κs. search needs) returns)
+unfolding check18
+check18-spec = tie.close (tie.spec (λ c κs. search needs) (λ c κs. search needs) (λ c. rw (c .before .all-fit .ensures) at (c .refuse .ensures)))

@@ -4,9 +4,6 @@ use Rattle.season.specs.Reports.{emptyReport}
 use Rattle.season.proofs.joins.empty_report.Statement.{statement}
 use Rattle.season.proofs.joins.empty_report.Tie as tie
 
-returns : tie.Need-returns
-unfolding emptyReport
-returns c = rw (c .no-jobs .ensures)
-
 pub empty-report-spec : {M : Type 1} → statement M
-empty-report-spec = tie.close (tie.spec (λ c κs. search needs) returns)
+unfolding emptyReport
+empty-report-spec = tie.close (tie.spec (λ c κs. search needs) (λ c. rw (c .empty-row .ensures)))

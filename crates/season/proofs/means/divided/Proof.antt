@@ -13,9 +13,6 @@ returns c =
     let some = c .before .before .if1 .taken in
     (rw (lt-ltb 0 _ some), mean-length _ _ some (omega (arith, c .struct-known3 .given .1 .1 .1 .1 .1 .0)))
 
-returns-2 : tie.Need-returns-2
-unfolding meanOf
-returns-2 c = (rw (le-ltb 0 _ (c .if1 .left)), tt)
-
 pub divided-spec : {M : Type 1} → statement M
-divided-spec = tie.close (tie.spec (λ c. search needs) (λ c. search needs) returns returns-2)
+unfolding meanOf
+divided-spec = tie.close (tie.spec (λ c. search needs) (λ c. search needs) returns (λ c. (rw (le-ltb 0 _ (c .if1 .left)), tt)))

@@ -7,7 +7,7 @@ use Rattle.tables.specs.declared.fields.Job.{Job}
 use Rattle.tables.specs.Tables.{jobCount, lists, taskCount}
 use Rattle.zsrm.specs.Record.{placeAt, standingAt}
 use Rattle.season.specs.Own.{ownReport, ownUpTo}
-use Rattle.season.proofs.Laws.Own.{one-job, own-none, own-stored, room-there, told-few, told-task, told-tasks}
+use Rattle.season.proofs.Laws.Own.{one-job, own-none, own-stored, room-there, judged-run-few, judged-run-task, judged-run-tasks}
 use Rattle.season.proofs.own.own_report.Statement.{statement}
 use Rattle.season.proofs.own.own_report.Tie as tie
 
@@ -17,10 +17,6 @@ Inv-loop tasks jobs run all out₀ n j₀ out j = (j ≤ jobCount jobs) × (out 
 abbrev μ-loop : tie.MeasureT-loop
 μ-loop tasks jobs run all out₀ n j₀ out j = jobCount jobs - j
 
-cast-empty-report : tie.Need-cast-empty-report Inv-loop μ-loop
-unfolding taskCount
-cast-empty-report c = omega (arith, told-tasks (c .before .before .pre))
-
 loop-holds : tie.Need-loop-holds Inv-loop μ-loop
 unfolding taskCount
 loop-holds c =
@@ -28,13 +24,18 @@ loop-holds c =
     (omega arith, c .before .empty-report .ensures ∙ own-none (lists (a .tasks .now) (a .jobs .now)) (a .t1))
 
 element-copy-out-judged : tie.Need-element-copy-out-judged Inv-loop μ-loop
-element-copy-out-judged c = omega (arith, c .loop-test .taken, c .before .before .job-count .ensures, told-few (c .before .before .before .before .before .before .pre))
+element-copy-out-judged c = omega (arith, c .loop-test .taken, c .before .before .job-count .ensures, judged-run-few (c .before .before .before .before .before .before .pre))
 
 element-copy-out-place : tie.Need-element-copy-out-place Inv-loop μ-loop
-element-copy-out-place c = omega (arith, c .before .loop-test .taken, c .before .before .before .job-count .ensures, told-few (c .before .before .before .before .before .before .before .pre))
+element-copy-out-place c = omega (arith, c .before .loop-test .taken, c .before .before .before .job-count .ensures, judged-run-few (c .before .before .before .before .before .before .before .pre))
 
 cast-job-at : tie.Need-cast-job-at Inv-loop μ-loop
-cast-job-at c = omega (arith, c .before .before .loop-test .taken, c .before .before .before .before .job-count .ensures, told-few (c .before .before .before .before .before .before .before .before .pre))
+cast-job-at c = omega (
+  arith,
+  c .before .before .loop-test .taken,
+  c .before .before .before .before .job-count .ensures,
+  judged-run-few (c .before .before .before .before .before .before .before .before .pre),
+)
 
 -- the task of job j is below 16
 element-copy-out-row : tie.Need-element-copy-out-row Inv-loop μ-loop
@@ -43,7 +44,7 @@ element-copy-out-row c =
     let start = at .before .before .before .before .before in
     let more = c .before .before .before .before .before .loop-test .taken in
     let below : at .loop .j < jobCount (start .args .jobs .now) = omega (arith, more, at .before .job-count .ensures) in
-    omega (arith, told-task (start .pre) (at .loop .j) below, ap (λ (x : Job). x .task) (c .before .before .job-at .ensures))
+    omega (arith, judged-run-task (start .pre) (at .loop .j) below, ap (λ (x : Job). x .task) (c .before .before .job-at .ensures))
 
 join-rows-requires : tie.Need-join-rows-requires Inv-loop μ-loop
 unfolding standingAt placeAt
@@ -55,7 +56,7 @@ join-rows-requires c κs =
     let start = at .before .before .before .before .before in
     let below : at .loop .j < jobCount (start .args .jobs .now) = omega (arith, more, at .before .job-count .ensures) in
     let task = ap (λ (x : Job). x .task) (read .job-at .ensures) in
-    room-there (start .pre) (at .loop .j) _ (at .loop .out) _ below (omega (arith, told-task (start .pre) (at .loop .j) below, task)) (at .loop .inv .1)
+    room-there (start .pre) (at .loop .j) _ (at .loop .out) _ below (omega (arith, judged-run-task (start .pre) (at .loop .j) below, task)) (at .loop .inv .1)
     (one-job (start .pre) (at .loop .j) _ _ below (ap (λ (x : Job). x .arrival) (read .job-at .ensures)) (made .job-row .ensures))
 
 element-set-from-out : tie.Need-element-set-from-out Inv-loop μ-loop
@@ -65,7 +66,7 @@ element-set-from-out c =
     let at = read .before .before .before .before in
     let start = at .before .before .before .before .before in
     let below : at .loop .j < jobCount (start .args .jobs .now) = omega (arith, more, at .before .job-count .ensures) in
-    omega (arith, told-task (start .pre) (at .loop .j) below, ap (λ (x : Job). x .task) (read .job-at .ensures))
+    omega (arith, judged-run-task (start .pre) (at .loop .j) below, ap (λ (x : Job). x .task) (read .job-at .ensures))
 
 loop-less : tie.Need-loop-less Inv-loop μ-loop
 loop-less c =
@@ -84,7 +85,7 @@ loop-again c =
     let task = ap (λ (x : Job). x .task) (read .job-at .ensures) in (
       omega (arith, below),
       own-stored (lists (start .args .tasks .now) (start .args .jobs .now)) (start .args .t1) (at .loop .j) _ (at .loop .out) _ _ (at .loop .inv .1) task
-          (omega (arith, told-task (start .pre) (at .loop .j) below, task))
+          (omega (arith, judged-run-task (start .pre) (at .loop .j) below, task))
           (one-job (start .pre) (at .loop .j) _ _ below (ap (λ (x : Job). x .arrival) (read .job-at .ensures)) (made .job-row .ensures)) (c .join-rows .ensures),
     )
 
@@ -97,29 +98,10 @@ returns c =
     at .loop .inv .1 ∙ ap (ownUpTo (lists (start .args .tasks .now) (start .args .jobs .now)) (start .args .t1)) last
 
 pub own-report-spec : {M : Type 1} → statement M
+unfolding taskCount
 own-report-spec =
     tie.close
-    (tie.spec
-    Inv-loop
-    μ-loop
-    cast-empty-report
-    (λ c κs. search needs)
-    (λ c κs. search needs)
-    loop-holds
-    (λ c. omega (arith, element-copy-out-judged c))
-    element-copy-out-judged
-    (λ c. omega (arith, element-copy-out-place c))
-    element-copy-out-place
-    cast-job-at
-    (λ c κs. search needs)
-    (λ c κs. search needs)
-    (λ c. search needs)
-    (λ c. omega (arith, element-copy-out-row c))
-    element-copy-out-row
-    join-rows-requires
-    (λ c. omega (arith, element-set-from-out c))
-    element-set-from-out
-    (λ c. search needs)
-    loop-less
-    loop-again
-    returns)
+    (tie.spec Inv-loop μ-loop (λ c. omega (arith, judged-run-tasks (c .before .before .pre))) (λ c κs. search needs) (λ c κs. search needs) loop-holds
+    (λ c. omega (arith, element-copy-out-judged c)) element-copy-out-judged (λ c. omega (arith, element-copy-out-place c)) element-copy-out-place cast-job-at
+    (λ c κs. search needs) (λ c κs. search needs) (λ c. search needs) (λ c. omega (arith, element-copy-out-row c)) element-copy-out-row join-rows-requires
+    (λ c. omega (arith, element-set-from-out c)) element-set-from-out (λ c. search needs) loop-less loop-again returns)

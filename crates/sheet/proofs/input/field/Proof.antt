@@ -3,8 +3,8 @@
 use mathlib.Core.Path.{sym, _∙_}
 use native.Mathlib.Omega.{arith}
 use borrow.Author.Needs.{needs}
-use Rattle.decimal.proofs.Reading.{in-range}
-use Rattle.sheet.proofs.Numbers.{field-yes, field-no, field-bad}
+use Rattle.text.proofs.Laws.Reading.{in-range}
+use Rattle.sheet.proofs.Laws.Numbers.{field-yes, field-no, field-bad}
 use Rattle.sheet.proofs.input.field.Statement.{statement}
 use Rattle.sheet.proofs.input.field.Tie as tie
 
@@ -25,12 +25,5 @@ returns-2 c =
 pub field-spec : {M : Type 1} → statement M
 field-spec =
     tie.close
-    (tie.spec
-    (λ c κs. search needs)
-    (λ c. search needs)
-    (λ c κs. search needs)
-    add-t10
-    returns
-    (λ c. search needs)
-    returns-2
+    (tie.spec (λ c κs. search needs) (λ c. search needs) (λ c κs. search needs) add-t10 returns (λ c. search needs) returns-2
     (λ c. sym (field-bad _ _ _ (sym (c .before .before .read .ensures) ∙ c .enum-told .given .1))))

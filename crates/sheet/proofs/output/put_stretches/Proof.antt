@@ -1,32 +1,20 @@
--- The lines of the stretches that ended before tick t are written, and the stretch that stands has begun at `first`; each line has
--- at most 33 bytes, and there is one tick at least for each.
+-- The lines of the stretches that ended before tick t are written, and the stretch that stands has begun at `first`.
 use Prim.Native.Nat.{_-_}
 use mathlib.Core.Path.{_∙_}
 use mathlib.Core.Logic.{⊎-elim}
 use native.Mathlib.Omega.{arith}
 use lib.ListN.{length}
 use borrow.Author.Needs.{needs}
-use Rattle.sheet.proofs.Lines.{Stretched, stretched-end, stretched-first, stretched-new, stretched-same, stretches-none}
+use Rattle.sheet.proofs.Laws.Lines.{Stretched, stretched-end, stretched-first, stretched-new, stretched-same, stretches-none}
 use Rattle.sheet.proofs.output.put_stretches.Statement.{statement}
 use Rattle.sheet.proofs.output.put_stretches.Tie as tie
-use Rattle.decimal.proofs.Wrote.{wrote-length}
+use Rattle.text.proofs.Laws.Put.{put-length}
 
 abbrev Inv-loop : tie.InvT-loop
 Inv-loop out₀ at schedule first₀ current₀ k₀ t₀ out first current k t = Stretched out₀ at schedule out first current k t
 
 abbrev μ-loop : tie.MeasureT-loop
 μ-loop out₀ at schedule first₀ current₀ k₀ t₀ out first current k t = length schedule - t
-
-cast-put-stretch : tie.Need-cast-put-stretch Inv-loop μ-loop
-cast-put-stretch c = omega arith
-
-cast-put-stretch-2 : tie.Need-cast-put-stretch-2 Inv-loop μ-loop
-cast-put-stretch-2 c = omega arith
-
-put-stretch-requires : tie.Need-put-stretch-requires Inv-loop μ-loop
-put-stretch-requires c κs =
-    let at-loop = c .before .before .before .before in
-    omega (arith, at-loop .loop .inv .few, at-loop .loop .inv .wrote .next-is, wrote-length (at-loop .loop .inv .wrote))
 
 loop-again : tie.Need-loop-again Inv-loop μ-loop
 loop-again c =
@@ -36,42 +24,12 @@ loop-again c =
     (λ w. rw (w .1, w .2, w .3, w .4) (stretched-same (at-loop .loop .inv) (search needs) (w .0 .left)))
     (c .if2 .came)
 
-cast-put-stretch-3 : tie.Need-cast-put-stretch-3 Inv-loop μ-loop
-cast-put-stretch-3 c = omega arith
-
-cast-put-stretch-4 : tie.Need-cast-put-stretch-4 Inv-loop μ-loop
-cast-put-stretch-4 c = omega arith
-
-put-stretch-requires-2 : tie.Need-put-stretch-requires-2 Inv-loop μ-loop
-put-stretch-requires-2 c κs =
-    let at-loop = c .before .before in
-    omega (arith, at-loop .loop .inv .few, at-loop .loop .inv .wrote .next-is, wrote-length (at-loop .loop .inv .wrote))
-
-same-length : tie.Need-same-length Inv-loop μ-loop
-same-length c = c .before .before .put-stretch2 .kept .0 ∙ wrote-length (c .before .before .before .before .before .loop .inv .wrote)
-
 returns-2 : tie.Need-returns-2 Inv-loop μ-loop
 returns-2 c = stretched-end (c .before .before .before .before .before .loop .inv) (search needs) (c .before .before .put-stretch2 .ensures)
 
 pub put-stretches-spec : {M : Type 1} → statement M
 put-stretches-spec =
     tie.close
-    (tie.spec
-    Inv-loop
-    μ-loop
-    (λ c. stretches-none _ _ _ (c .if1 .taken))
-    (λ c. search needs)
-    (λ c. stretched-first _ _ _ (c .before .if1 .left))
-    (λ c. search needs)
-    (λ c. search needs)
-    cast-put-stretch
-    cast-put-stretch-2
-    put-stretch-requires
-    (λ c. search needs)
-    (λ c. search needs)
-    loop-again
-    cast-put-stretch-3
-    cast-put-stretch-4
-    put-stretch-requires-2
-    same-length
-    returns-2)
+    (tie.spec Inv-loop μ-loop (λ c. stretches-none _ _ _ (c .if1 .taken)) (λ c. search needs) (λ c. stretched-first _ _ _ (c .before .if1 .left)) (λ c. search needs)
+    (λ c. search needs) (λ c. omega arith) (λ c. omega arith) (λ c κs. search needs) (λ c. search needs) (λ c. search needs) loop-again (λ c. omega arith) (λ c. omega arith)
+    (λ c κs. search needs) (λ c. c .before .before .put-stretch2 .kept .0 ∙ put-length (c .before .before .before .before .before .loop .inv .wrote)) returns-2)

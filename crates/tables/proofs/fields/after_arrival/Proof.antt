@@ -6,12 +6,9 @@ use Rattle.tables.specs.Tables.{arrival}
 use Rattle.tables.proofs.fields.after_arrival.Statement.{statement}
 use Rattle.tables.proofs.fields.after_arrival.Tie as tie
 
-returns : tie.Need-returns
-unfolding arrival
-returns c = ap₂ _+_ (c .before .at .ensures) (c .task-number .ensures)
-
 pub after-arrival-spec : {M : Type 1} → statement M
+unfolding arrival
 after-arrival-spec =
     tie.close
-    (tie.spec (λ c. search needs) (λ c. search needs) (λ c κs. search needs) (λ c. search needs) (λ c κs. search needs)
-    (λ c. search needs) (λ c. search needs) returns)
+    (tie.spec (λ c. search needs) (λ c. search needs) (λ c κs. search needs) (λ c. search needs) (λ c κs. search needs) (λ c. search needs) (λ c. search needs)
+    (λ c. ap₂ _+_ (c .before .at .ensures) (c .task-number .ensures)))

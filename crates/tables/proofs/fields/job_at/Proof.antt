@@ -4,12 +4,8 @@ use Rattle.tables.specs.Tables.{taskOf, arrival, execution}
 use Rattle.tables.proofs.fields.job_at.Statement.{statement}
 use Rattle.tables.proofs.fields.job_at.Tie as tie
 
-returns : tie.Need-returns
-unfolding taskOf arrival execution
-returns c = cc
-
 pub job-at-spec : {M : Type 1} → statement M
+unfolding taskOf arrival execution
 job-at-spec =
     tie.close
-    (tie.spec (λ c. search needs) (λ c κs. search needs) (λ c. search needs) (λ c κs. search needs) (λ c. search needs)
-    (λ c κs. search needs) returns)
+    (tie.spec (λ c. search needs) (λ c κs. search needs) (λ c. search needs) (λ c κs. search needs) (λ c. search needs) (λ c κs. search needs) (λ c. cc))

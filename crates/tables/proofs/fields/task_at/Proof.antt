@@ -4,13 +4,9 @@ use Rattle.tables.specs.Tables.{period, deadline, nominal, overload, cri
 use Rattle.tables.proofs.fields.task_at.Statement.{statement}
 use Rattle.tables.proofs.fields.task_at.Tie as tie
 
-returns : tie.Need-returns
-unfolding period deadline nominal overload criticality priority offset
-returns c = cc
-
 pub task-at-spec : {M : Type 1} → statement M
+unfolding period deadline nominal overload criticality priority offset
 task-at-spec =
     tie.close
-    (tie.spec (λ c. search needs) (λ c κs. search needs) (λ c. search needs) (λ c κs. search needs) (λ c. search needs)
-    (λ c κs. search needs) (λ c. search needs) (λ c κs. search needs) (λ c. search needs) (λ c κs. search needs)
-    (λ c. search needs) (λ c κs. search needs) (λ c. search needs) (λ c κs. search needs) returns)
+    (tie.spec (λ c. search needs) (λ c κs. search needs) (λ c. search needs) (λ c κs. search needs) (λ c. search needs) (λ c κs. search needs) (λ c. search needs)
+    (λ c κs. search needs) (λ c. search needs) (λ c κs. search needs) (λ c. search needs) (λ c κs. search needs) (λ c. search needs) (λ c κs. search needs) (λ c. cc))

@@ -6,7 +6,4 @@ use Rattle.tables.proofs.refusals.check4.Tie as tie
 
 pub check4-spec : {M : Type 1} → statement M
 unfolding check4
-check4-spec =
-    tie.close
-    (tie.spec (λ c κs. search needs) (λ c κs. search needs)
-    (λ c. rw (c .refuse .ensures, c .before .before .before .before .task-at .ensures)))
+check4-spec = tie.close (tie.spec (λ c κs. search needs) (λ c κs. search needs) (λ c. rw (c .refuse .ensures, c .before .before .before .before .task-at .ensures)))

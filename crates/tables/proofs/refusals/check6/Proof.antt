@@ -12,6 +12,4 @@ returns c =
     rw (c .refuse .ensures, read .task-at .ensures, read .before .job-at .ensures)
 
 pub check6-spec : {M : Type 1} → statement M
-check6-spec =
-    tie.close
-    (tie.spec (λ c κs. search needs) (λ c κs. search needs) (λ c. search needs) (λ c κs. search needs) returns)
+check6-spec = tie.close (tie.spec (λ c κs. search needs) (λ c κs. search needs) (λ c. search needs) (λ c κs. search needs) returns)

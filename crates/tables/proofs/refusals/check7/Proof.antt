@@ -14,7 +14,4 @@ returns c =
 
 pub check7-spec : {M : Type 1} → statement M
 unfolding refuse check7
-check7-spec =
-    tie.close
-    (tie.spec (λ c κs. search needs) (λ c. search needs) (λ c κs. search needs) (λ c κs. search needs) returns
-    (λ c. rw (le-ltb _ _ (c .if1 .left))))
+check7-spec = tie.close (tie.spec (λ c κs. search needs) (λ c. search needs) (λ c κs. search needs) (λ c κs. search needs) returns (λ c. rw (le-ltb _ _ (c .if1 .left))))

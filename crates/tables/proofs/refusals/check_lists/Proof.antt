@@ -6,5 +6,7 @@ use Rattle.tables.proofs.refusals.check_lists.Tie as tie
 
 pub check-lists-spec : {M : Type 1} → statement M
 unfolding checkLists
-check-lists-spec = tie.close (tie.spec (λ c κs. search needs) (λ c κs. search needs) (λ c κs. search needs)
+check-lists-spec =
+    tie.close
+    (tie.spec (λ c κs. search needs) (λ c κs. search needs) (λ c κs. search needs)
     (λ c. rw (c .before2 .ensures, c .before .check-jobs .ensures, c .before .before .check-tasks .ensures)))

@@ -5,7 +5,7 @@ use lib.Dec.{eqb}
 use borrow.Author.Needs.{needs}
 use borrow.Author.Tests.{eq-eqb, ne-eqb}
 use Rattle.bits.specs.Below.{greatest}
-use Rattle.bits.proofs.Below.{greatest-down, greatest-stop, greatest-end}
+use Rattle.bits.proofs.Laws.Below.{greatest-down, greatest-stop, greatest-end}
 use Rattle.tables.specs.Tables.{taskOf}
 use Rattle.tables.specs.Refusals.{preceding}
 use Rattle.tables.proofs.refusals.preceding.Statement.{statement}
@@ -33,5 +33,5 @@ pub preceding-spec : {M : Type 1} → statement M
 unfolding preceding
 preceding-spec =
     tie.close
-    (tie.spec Inv-loop μ-loop (λ c κs. search needs) (λ c. (search needs, refl)) (λ c. search needs) (λ c κs. search needs) here
-    (λ c. search needs) again (λ c. sym (c .before .loop .inv .1 ∙ greatest-end _ _ _ (c .loop-test .left))))
+    (tie.spec Inv-loop μ-loop (λ c κs. search needs) (λ c. (search needs, refl)) (λ c. search needs) (λ c κs. search needs) here (λ c. search needs) again
+    (λ c. sym (c .before .loop .inv .1 ∙ greatest-end _ _ _ (c .loop-test .left))))

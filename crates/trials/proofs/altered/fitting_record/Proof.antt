@@ -5,4 +5,8 @@ use Rattle.trials.proofs.altered.fitting_record.Statement.{statement}
 use Rattle.trials.proofs.altered.fitting_record.Tie as tie
 
 pub fitting-record-spec : {M : Type 1} → statement M
-fitting-record-spec = tie.close (tie.spec (λ _ _ _ _ _ _ _. 0 ≤ 0) (λ _ _ _ _ _ _ j. 64 - j) (search needs) (search needs) (search needs) (search needs) (search needs) (search needs) (search needs) (search needs))
+fitting-record-spec = tie.close
+    (tie.spec
+    (λ _ _ _ _ _ _ _. 0 ≤ 0)
+    (λ _ _ _ _ _ _ j. 64 - j)
+    (search needs) (search needs) (search needs) (search needs) (search needs) (search needs) (search needs) (search needs))

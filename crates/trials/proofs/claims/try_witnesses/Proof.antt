@@ -5,4 +5,9 @@ use Rattle.trials.proofs.claims.try_witnesses.Statement.{statement}
 use Rattle.trials.proofs.claims.try_witnesses.Tie as tie
 
 pub try-witnesses-spec : {M : Type 1} → statement M
-try-witnesses-spec = tie.close (tie.spec (λ _ _ _ _ _ _ _ _ _ _ _ _. 0 ≤ 0) (λ _ _ _ _ _ _ _ _ _ _ _ j. 65 - j) (search needs) (search needs) (search needs) (search needs) (search needs) (search needs) (search needs) (search needs) (search needs) (search needs))
+try-witnesses-spec = tie.close
+    (tie.spec
+    (λ _ _ _ _ _ _ _ _ _ _ _ _. 0 ≤ 0)
+    (λ _ _ _ _ _ _ _ _ _ _ _ j. 65 - j)
+    (search needs) (search needs) (search needs) (search needs) (search needs) (search needs) (search needs) (search needs) (search needs)
+    (search needs))

@@ -5,4 +5,8 @@ use Rattle.trials.proofs.day.try_changes.Statement.{statement}
 use Rattle.trials.proofs.day.try_changes.Tie as tie
 
 pub try-changes-spec : {M : Type 1} → statement M
-try-changes-spec = tie.close (tie.spec (λ _ _ _ _ _ _ _ _ _ _. 0 ≤ 0) (λ _ _ _ _ _ _ _ _ _ j. 64 - j) (search needs) (search needs) (search needs) (search needs) (search needs) (search needs) (search needs) (search needs) (search needs))
+try-changes-spec = tie.close
+    (tie.spec
+    (λ _ _ _ _ _ _ _ _ _ _. 0 ≤ 0)
+    (λ _ _ _ _ _ _ _ _ _ j. 64 - j)
+    (search needs) (search needs) (search needs) (search needs) (search needs) (search needs) (search needs) (search needs) (search needs))

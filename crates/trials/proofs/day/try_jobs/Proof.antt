@@ -5,4 +5,9 @@ use Rattle.trials.proofs.day.try_jobs.Statement.{statement}
 use Rattle.trials.proofs.day.try_jobs.Tie as tie
 
 pub try-jobs-spec : {M : Type 1} → statement M
-try-jobs-spec = tie.close (tie.spec (λ _ _ _ _ _ _ _ _ _ _ _ _. 0 ≤ 0) (λ _ _ _ _ _ _ _ _ _ _ _ j. 64 - j) (search needs) (search needs) (search needs) (search needs) (search needs) (search needs) (search needs) (search needs) (search needs) (search needs) (search needs) (search needs) (search needs) (search needs) (search needs))
+try-jobs-spec = tie.close
+    (tie.spec
+    (λ _ _ _ _ _ _ _ _ _ _ _ _ _. 0 ≤ 0)
+    (λ _ _ _ _ _ _ _ _ _ _ _ _ j. 64 - j)
+    (search needs) (search needs) (search needs) (search needs) (search needs) (search needs) (search needs) (search needs) (search needs)
+    (search needs) (search needs) (search needs) (search needs) (search needs) (search needs) (search needs) (search needs))

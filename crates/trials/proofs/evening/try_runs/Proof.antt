@@ -5,4 +5,9 @@ use Rattle.trials.proofs.evening.try_runs.Statement.{statement}
 use Rattle.trials.proofs.evening.try_runs.Tie as tie
 
 pub try-runs-spec : {M : Type 1} → statement M
-try-runs-spec = tie.close (tie.spec (λ _ _ _ _ _ _ _ _ _ _ _ _ _ _. 0 ≤ 0) (λ _ _ _ _ _ _ _ _ _ _ _ _ _ r. 32 - r) (search needs) (search needs) (search needs) (search needs) (search needs) (search needs) (search needs) (search needs) (search needs) (search needs) (search needs) (search needs) (search needs) (search needs) (search needs))
+try-runs-spec = tie.close
+    (tie.spec
+    (λ _ _ _ _ _ _ _ _ _ _ _ _ _ _. 0 ≤ 0)
+    (λ _ _ _ _ _ _ _ _ _ _ _ _ _ r. 32 - r)
+    (search needs) (search needs) (search needs) (search needs) (search needs) (search needs) (search needs) (search needs) (search needs)
+    (search needs) (search needs) (search needs) (search needs) (search needs) (search needs))

@@ -5,4 +5,10 @@ use Rattle.trials.proofs.evening.with_run.Statement.{statement}
 use Rattle.trials.proofs.evening.with_run.Tie as tie
 
 pub with-run-spec : {M : Type 1} → statement M
-with-run-spec = tie.close (tie.spec (λ _ _ _ _ _ _ _ _ _ _ _ _ _. 0 ≤ 0) (λ _ _ _ _ _ _ _ n _ _ _ _ i. n - i) (search needs) (search needs) (search needs) (search needs) (search needs) (search needs) (search needs) (search needs) (search needs) (search needs) (search needs) (search needs) (search needs) (search needs) (search needs) (search needs) (search needs) (search needs) (search needs) (search needs) (search needs) (search needs))
+with-run-spec = tie.close
+    (tie.spec
+    (λ _ _ _ _ _ _ _ _ _ _ _ _ _. 0 ≤ 0)
+    (λ _ _ _ _ _ _ _ n _ _ _ _ i. n - i)
+    (search needs) (search needs) (search needs) (search needs) (search needs) (search needs) (search needs) (search needs) (search needs)
+    (search needs) (search needs) (search needs) (search needs) (search needs) (search needs) (search needs) (search needs) (search needs)
+    (search needs) (search needs) (search needs) (search needs))

@@ -5,4 +5,9 @@ use Rattle.trials.proofs.flight.fly_on.Statement.{statement}
 use Rattle.trials.proofs.flight.fly_on.Tie as tie
 
 pub fly-on-spec : {M : Type 1} → statement M
-fly-on-spec = tie.close (tie.spec (λ _ _ _ _ _ _ _ _ _ _ _ _ _. 0 ≤ 0) (λ _ _ _ ticks _ _ _ _ _ _ _ _ leaps. ticks - leaps) (search needs) (search needs) (search needs) (search needs) (search needs) (search needs) (search needs) (search needs) (search needs) (search needs) (search needs) (search needs))
+fly-on-spec = tie.close
+    (tie.spec
+    (λ _ _ _ _ _ _ _ _ _ _ _ _ _. 0 ≤ 0)
+    (λ _ _ _ ticks _ _ _ _ _ _ _ _ leaps. ticks - leaps)
+    (search needs) (search needs) (search needs) (search needs) (search needs) (search needs) (search needs) (search needs) (search needs)
+    (search needs) (search needs) (search needs))

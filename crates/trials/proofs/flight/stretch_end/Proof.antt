@@ -5,4 +5,8 @@ use Rattle.trials.proofs.flight.stretch_end.Statement.{statement}
 use Rattle.trials.proofs.flight.stretch_end.Tie as tie
 
 pub stretch-end-spec : {M : Type 1} → statement M
-stretch-end-spec = tie.close (tie.spec (λ _ _ _ _ _. 0 ≤ 0) (λ _ _ horizon _ t. horizon - t) (search needs) (search needs) (search needs) (search needs) (search needs) (search needs) (search needs) (search needs) (search needs))
+stretch-end-spec = tie.close
+    (tie.spec
+    (λ _ _ _ _ _. 0 ≤ 0)
+    (λ _ _ horizon _ t. horizon - t)
+    (search needs) (search needs) (search needs) (search needs) (search needs) (search needs) (search needs) (search needs) (search needs))

@@ -5,4 +5,8 @@ use Rattle.trials.proofs.leap.bar.Statement.{statement}
 use Rattle.trials.proofs.leap.bar.Tie as tie
 
 pub bar-spec : {M : Type 1} → statement M
-bar-spec = tie.close (tie.spec (λ _ _ _ _ _ _ _. 0 ≤ 0) (λ _ _ _ _ _ _ j. 64 - j) (search needs) (search needs) (search needs) (search needs) (search needs) (search needs) (search needs) (search needs))
+bar-spec = tie.close
+    (tie.spec
+    (λ _ _ _ _ _ _ _. 0 ≤ 0)
+    (λ _ _ _ _ _ _ j. 64 - j)
+    (search needs) (search needs) (search needs) (search needs) (search needs) (search needs) (search needs) (search needs))

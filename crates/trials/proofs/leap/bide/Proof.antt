@@ -5,4 +5,10 @@ use Rattle.trials.proofs.leap.bide.Statement.{statement}
 use Rattle.trials.proofs.leap.bide.Tie as tie
 
 pub bide-spec : {M : Type 1} → statement M
-bide-spec = tie.close (tie.spec (λ _ _ _ _ _ _ _ _ _ _ _. 0 ≤ 0) (λ _ _ _ _ _ _ _ _ _ _ j. 64 - j) (search needs) (search needs) (search needs) (search needs) (search needs) (search needs) (search needs) (search needs) (search needs) (search needs) (search needs) (search needs) (search needs) (search needs) (search needs) (search needs) (search needs) (search needs) (search needs) (search needs))
+bide-spec = tie.close
+    (tie.spec
+    (λ _ _ _ _ _ _ _ _ _ _ _. 0 ≤ 0)
+    (λ _ _ _ _ _ _ _ _ _ _ j. 64 - j)
+    (search needs) (search needs) (search needs) (search needs) (search needs) (search needs) (search needs) (search needs) (search needs)
+    (search needs) (search needs) (search needs) (search needs) (search needs) (search needs) (search needs) (search needs) (search needs)
+    (search needs) (search needs))

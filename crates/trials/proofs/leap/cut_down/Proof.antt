@@ -5,4 +5,9 @@ use Rattle.trials.proofs.leap.cut_down.Statement.{statement}
 use Rattle.trials.proofs.leap.cut_down.Tie as tie
 
 pub cut-down-spec : {M : Type 1} → statement M
-cut-down-spec = tie.close (tie.spec (λ _ _ _ _ _ _ _ _ _ _. 0 ≤ 0) (λ _ _ _ _ _ _ _ _ _ j. 64 - j) (search needs) (search needs) (search needs) (search needs) (search needs) (search needs) (search needs) (search needs) (search needs) (search needs) (search needs) (search needs) (search needs) (search needs) (search needs) (search needs) (search needs) (search needs))
+cut-down-spec = tie.close
+    (tie.spec
+    (λ _ _ _ _ _ _ _ _ _ _. 0 ≤ 0)
+    (λ _ _ _ _ _ _ _ _ _ j. 64 - j)
+    (search needs) (search needs) (search needs) (search needs) (search needs) (search needs) (search needs) (search needs) (search needs)
+    (search needs) (search needs) (search needs) (search needs) (search needs) (search needs) (search needs) (search needs) (search needs))

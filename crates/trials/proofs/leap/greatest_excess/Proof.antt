@@ -5,4 +5,9 @@ use Rattle.trials.proofs.leap.greatest_excess.Statement.{statement}
 use Rattle.trials.proofs.leap.greatest_excess.Tie as tie
 
 pub greatest-excess-spec : {M : Type 1} → statement M
-greatest-excess-spec = tie.close (tie.spec (λ _ _ _ _ _ _ _ _. 0 ≤ 0) (λ _ _ _ _ _ _ _ j. 64 - j) (search needs) (search needs) (search needs) (search needs) (search needs) (search needs) (search needs) (search needs) (search needs) (search needs) (search needs))
+greatest-excess-spec = tie.close
+    (tie.spec
+    (λ _ _ _ _ _ _ _ _. 0 ≤ 0)
+    (λ _ _ _ _ _ _ _ j. 64 - j)
+    (search needs) (search needs) (search needs) (search needs) (search needs) (search needs) (search needs) (search needs) (search needs)
+    (search needs) (search needs))

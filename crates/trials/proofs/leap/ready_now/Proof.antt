@@ -5,4 +5,9 @@ use Rattle.trials.proofs.leap.ready_now.Statement.{statement}
 use Rattle.trials.proofs.leap.ready_now.Tie as tie
 
 pub ready-now-spec : {M : Type 1} → statement M
-ready-now-spec = tie.close (tie.spec (λ _ _ _ _ _ _ _ _. 0 ≤ 0) (λ _ _ _ _ _ _ _ j. 64 - j) (search needs) (search needs) (search needs) (search needs) (search needs) (search needs) (search needs) (search needs) (search needs) (search needs) (search needs))
+ready-now-spec = tie.close
+    (tie.spec
+    (λ _ _ _ _ _ _ _ _. 0 ≤ 0)
+    (λ _ _ _ _ _ _ _ j. 64 - j)
+    (search needs) (search needs) (search needs) (search needs) (search needs) (search needs) (search needs) (search needs) (search needs)
+    (search needs) (search needs))

@@ -5,4 +5,9 @@ use Rattle.trials.proofs.leap.soonest.Statement.{statement}
 use Rattle.trials.proofs.leap.soonest.Tie as tie
 
 pub soonest-spec : {M : Type 1} → statement M
-soonest-spec = tie.close (tie.spec (λ _ _ _ _ _ _ _ _ _. 0 ≤ 0) (λ _ _ _ _ _ _ _ _ j. 64 - j) (search needs) (search needs) (search needs) (search needs) (search needs) (search needs) (search needs) (search needs) (search needs) (search needs))
+soonest-spec = tie.close
+    (tie.spec
+    (λ _ _ _ _ _ _ _ _ _. 0 ≤ 0)
+    (λ _ _ _ _ _ _ _ _ j. 64 - j)
+    (search needs) (search needs) (search needs) (search needs) (search needs) (search needs) (search needs) (search needs) (search needs)
+    (search needs))

@@ -5,4 +5,9 @@ use Rattle.trials.proofs.lines.delay.Statement.{statement}
 use Rattle.trials.proofs.lines.delay.Tie as tie
 
 pub delay-spec : {M : Type 1} → statement M
-delay-spec = tie.close (tie.spec (λ _ _ _ _ _ _ _ _. 0 ≤ 0) (λ _ _ to _ _ _ _ t. to - t) (search needs) (search needs) (search needs) (search needs) (search needs) (search needs) (search needs) (search needs) (search needs) (search needs) (search needs))
+delay-spec = tie.close
+    (tie.spec
+    (λ _ _ _ _ _ _ _ _. 0 ≤ 0)
+    (λ _ _ to _ _ _ _ t. to - t)
+    (search needs) (search needs) (search needs) (search needs) (search needs) (search needs) (search needs) (search needs) (search needs)
+    (search needs) (search needs))

@@ -5,4 +5,9 @@ use Rattle.trials.proofs.lines.exchange.Statement.{statement}
 use Rattle.trials.proofs.lines.exchange.Tie as tie
 
 pub exchange-spec : {M : Type 1} → statement M
-exchange-spec = tie.close (tie.spec (λ _ _ _ _ _ _ _ _. 0 ≤ 0) (λ _ _ to _ _ _ _ t. to - t) (search needs) (search needs) (search needs) (search needs) (search needs) (search needs) (search needs) (search needs) (search needs) (search needs) (search needs))
+exchange-spec = tie.close
+    (tie.spec
+    (λ _ _ _ _ _ _ _ _. 0 ≤ 0)
+    (λ _ _ to _ _ _ _ t. to - t)
+    (search needs) (search needs) (search needs) (search needs) (search needs) (search needs) (search needs) (search needs) (search needs)
+    (search needs) (search needs))

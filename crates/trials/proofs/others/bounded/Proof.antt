@@ -5,4 +5,9 @@ use Rattle.trials.proofs.others.bounded.Statement.{statement}
 use Rattle.trials.proofs.others.bounded.Tie as tie
 
 pub bounded-spec : {M : Type 1} → statement M
-bounded-spec = tie.close (tie.spec (λ _ _ _ _ _ _ _. 0 ≤ 0) (λ _ _ _ _ _ _ k. 16 - k) (search needs) (search needs) (search needs) (search needs) (search needs) (search needs) (search needs) (search needs) (search needs) (search needs) (search needs) (search needs) (search needs))
+bounded-spec = tie.close
+    (tie.spec
+    (λ _ _ _ _ _ _ _. 0 ≤ 0)
+    (λ _ _ _ _ _ _ k. 16 - k)
+    (search needs) (search needs) (search needs) (search needs) (search needs) (search needs) (search needs) (search needs) (search needs)
+    (search needs) (search needs) (search needs) (search needs))

@@ -5,4 +5,10 @@ use Rattle.trials.proofs.others.leave_out.Statement.{statement}
 use Rattle.trials.proofs.others.leave_out.Tie as tie
 
 pub leave-out-spec : {M : Type 1} → statement M
-leave-out-spec = tie.close (tie.spec (λ _ _ _ _ _ _ _ _. 0 ≤ 0) (λ _ _ _ _ _ _ _ j. 64 - j) (search needs) (search needs) (search needs) (search needs) (search needs) (search needs) (search needs) (search needs) (search needs) (search needs) (search needs) (search needs) (search needs) (search needs) (search needs) (search needs) (search needs) (search needs) (search needs) (search needs))
+leave-out-spec = tie.close
+    (tie.spec
+    (λ _ _ _ _ _ _ _ _. 0 ≤ 0)
+    (λ _ _ _ _ _ _ _ j. 64 - j)
+    (search needs) (search needs) (search needs) (search needs) (search needs) (search needs) (search needs) (search needs) (search needs)
+    (search needs) (search needs) (search needs) (search needs) (search needs) (search needs) (search needs) (search needs) (search needs)
+    (search needs) (search needs))

@@ -5,4 +5,11 @@ use Rattle.trials.proofs.others.try_members.Statement.{statement}
 use Rattle.trials.proofs.others.try_members.Tie as tie
 
 pub try-members-spec : {M : Type 1} → statement M
-try-members-spec = tie.close (tie.spec (λ _ _ _ _ _ _ _ _ _ _ _ _ _ _ _ _ _ _. 0 ≤ 0) (λ _ _ _ _ _ _ _ _ _ _ _ _ _ _ _ _ _ j. 64 - j) (search needs) (search needs) (λ c. search needs) (search needs) (search needs) (search needs) (search needs) (search needs) (search needs) (search needs) (search needs) (search needs) (search needs) (search needs) (search needs) (search needs) (search needs) (search needs) (search needs) (search needs) (search needs) (search needs) (search needs) (search needs) (search needs) (search needs) (search needs) (search needs) (search needs) (search needs))
+try-members-spec = tie.close
+    (tie.spec
+    (λ _ _ _ _ _ _ _ _ _ _ _ _ _ _ _ _ _ _. 0 ≤ 0)
+    (λ _ _ _ _ _ _ _ _ _ _ _ _ _ _ _ _ _ j. 64 - j)
+    (search needs) (search needs) (λ c. search needs) (search needs) (search needs) (search needs) (search needs) (search needs)
+    (search needs) (search needs) (search needs) (search needs) (search needs) (search needs) (search needs) (search needs) (search needs)
+    (search needs) (search needs) (search needs) (search needs) (search needs) (search needs) (search needs) (search needs) (search needs)
+    (search needs) (search needs) (search needs) (search needs))

@@ -5,4 +5,9 @@ use Rattle.trials.proofs.records.consistent.Statement.{statement}
 use Rattle.trials.proofs.records.consistent.Tie as tie
 
 pub consistent-spec : {M : Type 1} → statement M
-consistent-spec = tie.close (tie.spec (λ _ _ _ _ _ _ _ _ _. 0 ≤ 0) (λ _ _ _ _ _ _ _ _ j. 64 - j) (search needs) (search needs) (search needs) (search needs) (search needs) (search needs) (search needs) (search needs) (search needs) (search needs))
+consistent-spec = tie.close
+    (tie.spec
+    (λ _ _ _ _ _ _ _ _ _. 0 ≤ 0)
+    (λ _ _ _ _ _ _ _ _ j. 64 - j)
+    (search needs) (search needs) (search needs) (search needs) (search needs) (search needs) (search needs) (search needs) (search needs)
+    (search needs))

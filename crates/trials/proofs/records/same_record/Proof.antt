@@ -5,4 +5,9 @@ use Rattle.trials.proofs.records.same_record.Statement.{statement}
 use Rattle.trials.proofs.records.same_record.Tie as tie
 
 pub same-record-spec : {M : Type 1} → statement M
-same-record-spec = tie.close (tie.spec (λ _ _ _ _ _ _. 0 ≤ 0) (λ _ _ _ _ _ j. 64 - j) (search needs) (search needs) (search needs) (search needs) (search needs) (search needs) (search needs) (search needs) (search needs) (search needs))
+same-record-spec = tie.close
+    (tie.spec
+    (λ _ _ _ _ _ _. 0 ≤ 0)
+    (λ _ _ _ _ _ j. 64 - j)
+    (search needs) (search needs) (search needs) (search needs) (search needs) (search needs) (search needs) (search needs) (search needs)
+    (search needs))

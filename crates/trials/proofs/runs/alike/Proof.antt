@@ -5,4 +5,8 @@ use Rattle.trials.proofs.runs.alike.Statement.{statement}
 use Rattle.trials.proofs.runs.alike.Tie as tie
 
 pub alike-spec : {M : Type 1} → statement M
-alike-spec = tie.close (tie.spec (λ _ _ _ _ _ _. 0 ≤ 0) (λ _ _ _ n _ i. n - i) (search needs) (search needs) (search needs) (search needs) (search needs) (search needs) (search needs) (search needs) (search needs))
+alike-spec = tie.close
+    (tie.spec
+    (λ _ _ _ _ _ _. 0 ≤ 0)
+    (λ _ _ _ n _ i. n - i)
+    (search needs) (search needs) (search needs) (search needs) (search needs) (search needs) (search needs) (search needs) (search needs))

@@ -5,4 +5,9 @@ use Rattle.trials.proofs.runs.try_verdicts.Statement.{statement}
 use Rattle.trials.proofs.runs.try_verdicts.Tie as tie
 
 pub try-verdicts-spec : {M : Type 1} → statement M
-try-verdicts-spec = tie.close (tie.spec (λ _ _ _ _ _ _ _ _ _. 0 ≤ 0) (λ _ _ _ _ _ _ _ _ j. 65 - j) (search needs) (search needs) (search needs) (search needs) (search needs) (search needs) (search needs) (search needs) (search needs) (search needs))
+try-verdicts-spec = tie.close
+    (tie.spec
+    (λ _ _ _ _ _ _ _ _ _. 0 ≤ 0)
+    (λ _ _ _ _ _ _ _ _ j. 65 - j)
+    (search needs) (search needs) (search needs) (search needs) (search needs) (search needs) (search needs) (search needs) (search needs)
+    (search needs))

@@ -1,8 +1,8 @@
 -- The four fields, as the calls answer them; at most 64 are counted before, so no sum wraps.
 use native.Mathlib.Omega.{arith}
 use borrow.Author.Needs.{needs}
+use Rattle.bits.proofs.Laws.Bools.{at-most-one}
 use Rattle.window.specs.Code.{withJob}
-use Rattle.window.proofs.Laws.Counts.{at-most-one}
 use Rattle.window.proofs.jobs.with_job_if.Statement.{statement}
 use Rattle.window.proofs.jobs.with_job_if.Tie as tie
 

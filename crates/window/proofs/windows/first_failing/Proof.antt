@@ -7,7 +7,7 @@ use lib.Dec.{ltb}
 use borrow.Author.Needs.{needs}
 use borrow.Author.Tests.{le-ltb, lt-ltb}
 use Rattle.bits.specs.Below.{some}
-use Rattle.bits.proofs.Below.{least-is, least-none, none-passes, scan-end, scan-on}
+use Rattle.bits.proofs.Laws.Below.{least-is, least-none, none-passes, scan-end, scan-on}
 use Rattle.window.specs.declared.jobs.Gathered.{Gathered}
 use Rattle.window.specs.Code.{firstOver, missesBetween}
 use Rattle.window.proofs.windows.first_failing.Statement.{statement}
@@ -21,9 +21,6 @@ Inv-loop own m k i₀ i = (i ≤ suc (own .count) - k) × (some i (over own m k)
 
 abbrev μ-loop : tie.MeasureT-loop
 μ-loop own m k i₀ i = (suc (own .count) - k) - i
-
-misses-requires : tie.Need-misses-requires Inv-loop μ-loop
-misses-requires c κs = (c .before .before .before .pre .0, search needs)
 
 returns : tie.Need-returns Inv-loop μ-loop
 unfolding firstOver
@@ -39,8 +36,10 @@ loop-again : tie.Need-loop-again Inv-loop μ-loop
 loop-again c =
     let counted = c .before in
     let at = counted .before .before .before in
-    let a = at .before .args in
-    (omega (arith, counted .before .if1 .taken), scan-on (over (a .own) (a .m) (a .k)) (at .loop .i) (ltb (a .m) (counted .misses .result)) (at .loop .inv .1) (ap (ltb (a .m)) (counted .misses .ensures)) (le-ltb (a .m) _ (c .if2 .left)))
+    let a = at .before .args in (
+      omega (arith, counted .before .if1 .taken),
+      scan-on (over (a .own) (a .m) (a .k)) (at .loop .i) (ltb (a .m) (counted .misses .result)) (at .loop .inv .1) (ap (ltb (a .m)) (counted .misses .ensures)) (le-ltb (a .m) _ (c .if2 .left)),
+    )
 
 returns-2 : tie.Need-returns-2 Inv-loop μ-loop
 unfolding firstOver
@@ -55,5 +54,5 @@ returns-2 c =
 pub first-failing-spec : {M : Type 1} → statement M
 first-failing-spec =
     tie.close
-    (tie.spec Inv-loop μ-loop (λ c. (omega arith, none-passes _ 0 (λ i l. absurd (omega arith)))) (λ c. omega (arith, c .before .pre)) misses-requires returns
-    (λ c. search needs) (λ c. search needs) loop-again returns-2)
+    (tie.spec Inv-loop μ-loop (λ c. (omega arith, none-passes _ 0 (λ i l. absurd (omega arith)))) (λ c. omega (arith, c .before .pre))
+    (λ c κs. (c .before .before .before .pre .0, search needs)) returns (λ c. search needs) (λ c. search needs) loop-again returns-2)

@@ -10,9 +10,6 @@ sub-result c =
     let start = c .before .before in
     omega (arith, start .pre .0 .rises (start .args .i) (start .args .k) (start .pre .1))
 
-returns : tie.Need-returns
-unfolding missesBetween
-returns c = search needs
-
 pub misses-spec : {M : Type 1} → statement M
-misses-spec = tie.close (tie.spec (λ c. search needs) (λ c. search needs) (λ c. search needs) (λ c. search needs) (λ c. search needs) sub-result returns)
+unfolding missesBetween
+misses-spec = tie.close (tie.spec (λ c. search needs) (λ c. search needs) (λ c. search needs) (λ c. search needs) (λ c. search needs) sub-result (λ c. search needs))

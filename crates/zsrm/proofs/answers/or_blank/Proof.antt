@@ -2,7 +2,7 @@
 use mathlib.Core.Path.{ap}
 use borrow.Author.Needs.{needs}
 use Rattle.zsrm.specs.declared.record.Record.{Record}
-use Rattle.tables.specs.declared.outcome.Outcome.the-variants.{Refused}
+use Rattle.tables.specs.declared.answers.Outcome.the-variants.{Refused}
 use Rattle.zsrm.specs.declared.answers.Ran.{Ran}
 use Rattle.tables.specs.Refusals.{unless}
 use Rattle.zsrm.specs.Answers.{ran}

@@ -3,14 +3,14 @@ use Prim.Native.Nat.{_*_, _-_, _≤_}
 use mathlib.Core.Path.{sym, _∙_}
 use native.Mathlib.Omega.{arith}
 use borrow.Author.Needs.{needs}
-use Rattle.bits.proofs.Arrays.{Written, written-all, written-more, written-none}
+use Rattle.bits.proofs.Laws.Arrays.{Written, written-all, written-more, written-none}
 use Rattle.tables.specs.Bytes.{numberAt}
 use Rattle.zsrm.specs.Code.Called.{decoded}
 use Rattle.zsrm.proofs.bytes.decode.Statement.{statement}
 use Rattle.zsrm.proofs.bytes.decode.Tie as tie
 
 abbrev Inv-loop : tie.InvT-loop
-Inv-loop bytes numbers₀ i₀ numbers i = (i ≤ 192) × Written 0 (λ k. numberAt bytes (k * 4)) numbers₀ numbers 192 i
+Inv-loop bytes numbers₀ i₀ numbers i = (i ≤ 192) × Written 0 (λ k. numberAt 4 bytes (k * 4)) numbers₀ numbers 192 i
 
 abbrev μ-loop : tie.MeasureT-loop
 μ-loop bytes numbers₀ i₀ numbers i = 192 - i

@@ -13,13 +13,17 @@ is-legal-spec =
     (tie.spec (λ c κs. search needs) (λ c κs. let start = c .before .before .before .before .before .before in lists-few _ (start .pre .0))
     (λ c. let start = c .before .before .before .before .before .before in
     let a = start .args in
-    let may = seen-may (given (start .args .mode) (start .args .tasks .now) (start .args .jobs .now)) (start .pre .0) (a .rec) (a .seen) (a .entry) _ (start .pre .1) (c .before .before .before .is-top-or-idle .ensures) in
-    legal-kept (given (start .args .mode) (start .args .tasks .now) (start .args .jobs .now)) (a .rec) (a .last) (a .entry) (sym may ∙ c .before .before .if1 .taken) (c .if2 .taken))
+    let may = seen-may (given (start .args .mode) (start .args .tasks .now) (start .args .jobs .now)) (start .pre .0)
+    (a .rec) (a .seen) (a .entry) _ (start .pre .1) (c .before .before .before .is-top-or-idle .ensures) in
+    legal-kept (given (start .args .mode) (start .args .tasks .now) (start .args .jobs .now)) (a .rec) (a .rec .previous) (a .entry) (sym may ∙ c .before .before .if1 .taken) (c .if2 .taken))
     (λ c. let start = c .before .before .before .before .before .before .before in
     let a = start .args in
-    let may = seen-may (given (start .args .mode) (start .args .tasks .now) (start .args .jobs .now)) (start .pre .0) (a .rec) (a .seen) (a .entry) _ (start .pre .1) (c .before .before .before .before .is-top-or-idle .ensures) in
-    legal-instant (given (start .args .mode) (start .args .tasks .now) (start .args .jobs .now)) (a .rec) (a .last) (a .entry) _ (sym may ∙ c .before .before .before .if1 .taken) (c .before .if2 .left) (c .is-instant .ensures))
+    let may = seen-may (given (start .args .mode) (start .args .tasks .now) (start .args .jobs .now)) (start .pre .0)
+    (a .rec) (a .seen) (a .entry) _ (start .pre .1) (c .before .before .before .before .is-top-or-idle .ensures) in
+    legal-instant (given (start .args .mode) (start .args .tasks .now) (start .args .jobs .now)) (a .rec) (a .rec .previous)
+    (a .entry) _ (sym may ∙ c .before .before .before .if1 .taken) (c .before .if2 .left) (c .is-instant .ensures))
     (λ c. let start = c .before .before .before .before in
     let a = start .args in
-    let may = seen-may (given (start .args .mode) (start .args .tasks .now) (start .args .jobs .now)) (start .pre .0) (a .rec) (a .seen) (a .entry) _ (start .pre .1) (c .before .is-top-or-idle .ensures) in
-    legal-never (given (start .args .mode) (start .args .tasks .now) (start .args .jobs .now)) (a .rec) (a .last) (a .entry) (sym may ∙ c .if1 .left)))
+    let may = seen-may (given (start .args .mode) (start .args .tasks .now) (start .args .jobs .now))
+    (start .pre .0) (a .rec) (a .seen) (a .entry) _ (start .pre .1) (c .before .is-top-or-idle .ensures) in
+    legal-never (given (start .args .mode) (start .args .tasks .now) (start .args .jobs .now)) (a .rec) (a .rec .previous) (a .entry) (sym may ∙ c .if1 .left)))

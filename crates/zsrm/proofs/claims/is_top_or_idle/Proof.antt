@@ -17,7 +17,8 @@ returns c =
     let a = start .args in
     ap (λ (x : Bool). x || (eqb (a .entry) idle && eqb (a .seen .ready) 0))
     (ap₂ (λ (n : ℕ) (x : Bool). ltb (a .entry) n && x) (c .before .before .job-count .ensures)
-    (c .before .has-priority .ensures ∙ ap (λ (p : ℕ). hasPriority (lists (start .args .tasks .now) (start .args .jobs .now)) (a .seen .eligible) p (a .entry)) (c .before .before .before .highest .ensures)))
+    (c .before .has-priority .ensures
+    ∙ ap (λ (p : ℕ). hasPriority (lists (start .args .tasks .now) (start .args .jobs .now)) (a .seen .eligible) p (a .entry)) (c .before .before .before .highest .ensures)))
 
 pub is-top-or-idle-spec : {M : Type 1} → statement M
 is-top-or-idle-spec = tie.close (tie.spec (λ c κs. search needs) (λ c κs. search needs) (λ c κs. search needs) returns)

@@ -1,18 +1,13 @@
--- The checks in their order, as the calls answer them.
-use mathlib.Core.Path.{ap, ap₂, _∙_}
+-- What all verdicts check, and then the job.
+use mathlib.Core.Path.{ap₂, _∙_}
 use borrow.Author.Needs.{needs}
 use Rattle.tables.specs.Refusals.{before}
-use Rattle.zsrm.specs.Record.{check11}
-use Rattle.zsrm.specs.Answers.{checkVerdict}
+use Rattle.zsrm.proofs.Laws.Verdicts.{verdict-checked}
 use Rattle.zsrm.proofs.judging.check_verdict.Statement.{statement}
 use Rattle.zsrm.proofs.judging.check_verdict.Tie as tie
 
 returns : tie.Need-returns
-unfolding checkVerdict
-returns c =
-    c .before3 .ensures
-    ∙ ap₂ before (c .before .before .before .check-lists .ensures)
-    (c .before .before2 .ensures ∙ ap₂ before (c .before .before .before .before .check11 .ensures ∙ ap check11 (c .before .before .before .before .before .is-consistent .ensures)) (c .before .before .check13 .ensures))
+returns c = c .before2 .ensures ∙ ap₂ before (c .before .before .check-verdicts .ensures) (c .before .check13 .ensures) ∙ verdict-checked _ _ _
 
 pub check-verdict-spec : {M : Type 1} → statement M
-check-verdict-spec = tie.close (tie.spec (λ c κs. search needs) (λ c κs. search needs) (λ c κs. search needs) (λ c κs. search needs) (λ c κs. search needs) (λ c κs. search needs) returns)
+check-verdict-spec = tie.close (tie.spec (λ c κs. search needs) (λ c κs. search needs) (λ c κs. search needs) returns)

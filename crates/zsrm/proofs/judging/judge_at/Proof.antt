@@ -11,7 +11,7 @@ returns : tie.Need-returns
 unfolding verdict standingAt placeAt
 returns c =
     let a = c .before .before .before .before .before .args in
-    c .judge .ensures ∙ ap (λ (due : ℕ). judged due (a .t1 .tick) (standingAt (a .t1) (a .j))) (c .before .deadline-instant .ensures)
+    c .judge-standing .ensures ∙ ap (λ (due : ℕ). judged due (a .t1 .tick) (standingAt (a .t1) (a .j))) (c .before .deadline-instant .ensures)
 
 pub judge-at-spec : {M : Type 1} → statement M
 judge-at-spec = tie.close (tie.spec (λ c. search needs) (λ c. search needs) (λ c κs. search needs) (λ c κs. search needs) returns)

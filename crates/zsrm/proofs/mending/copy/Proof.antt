@@ -4,7 +4,7 @@ use mathlib.Core.Path.{_≡_, refl, _∙_}
 use native.Mathlib.Omega.{arith}
 use lib.ListN.{getD, length, length-set, take}
 use borrow.Author.Needs.{needs}
-use Rattle.zsrm.proofs.Laws.Mending.{copied-more}
+use Rattle.bits.proofs.Laws.Lists.{copied-more}
 use Rattle.zsrm.proofs.mending.copy.Statement.{statement}
 use Rattle.zsrm.proofs.mending.copy.Tie as tie
 

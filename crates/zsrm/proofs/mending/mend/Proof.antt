@@ -8,8 +8,8 @@ use Rattle.zsrm.proofs.Laws.Mending.{mend-answer}
 use Rattle.zsrm.proofs.mending.mend.Statement.{statement}
 use Rattle.zsrm.proofs.mending.mend.Tie as tie
 
-replay-requires : tie.Need-replay-requires
-replay-requires c κs =
+walk-requires : tie.Need-walk-requires
+walk-requires c κs =
     let w = accepts _ _ _ _ (sym (c .before .before .check-mend .ensures) ∙ c .enum-told .given .1) in
     (w .input .lists, w .limit)
 
@@ -17,7 +17,7 @@ write-mended-requires : tie.Need-write-mended-requires
 write-mended-requires c κs =
     let x = c .before .before in
     let w = accepts _ _ _ _ (sym (x .before .before .check-mend .ensures) ∙ x .enum-told .given .1) in
-    ((w .input .lists, c .before .replay .ensures), (w .limit, w .room ∙ sym (w .input .whole)))
+    ((w .input .lists, c .before .walk .ensures), (w .limit, w .room ∙ sym (w .input .whole)))
 
 returns : tie.Need-returns
 returns c =
@@ -26,7 +26,8 @@ returns c =
     let g = given (a .mode) (a .tasks .now) (a .jobs .now) in
     let ok = sym (x .before .before .check-mend .ensures) ∙ x .enum-told .given .1 in
     let w = c .before .before .before .write-mended .ensures in (
-      rw (eq-eqb _ _ (c .if1 .taken)) at (mend-answer g (a .schedule .now) _ (c .before .before .before .before .before .replay .ensures) _ (w .0)) ∙ sym (answer-is g (a .horizon) (a .schedule .now) (a .mended .now) ok),
+      rw (eq-eqb _ _ (c .if1 .taken)) at (mend-answer g (a .schedule .now) _ (c .before .before .before .before .before .walk .ensures) _ (w .0))
+          ∙ sym (answer-is g (a .horizon) (a .schedule .now) (a .mended .now) ok),
       w .1 ∙ sym (schedule-is g (a .horizon) (a .schedule .now) (a .mended .now) ok),
     )
 
@@ -37,7 +38,8 @@ returns-2 c =
     let g = given (a .mode) (a .tasks .now) (a .jobs .now) in
     let ok = sym (x .before .before .check-mend .ensures) ∙ x .enum-told .given .1 in
     let w = c .before .before .before .write-mended .ensures in (
-      rw (ne-eqb _ _ (c .if1 .left)) at (mend-answer g (a .schedule .now) _ (c .before .before .before .before .before .replay .ensures) _ (w .0)) ∙ sym (answer-is g (a .horizon) (a .schedule .now) (a .mended .now) ok),
+      rw (ne-eqb _ _ (c .if1 .left)) at (mend-answer g (a .schedule .now) _ (c .before .before .before .before .before .walk .ensures) _ (w .0))
+          ∙ sym (answer-is g (a .horizon) (a .schedule .now) (a .mended .now) ok),
       w .1 ∙ sym (schedule-is g (a .horizon) (a .schedule .now) (a .mended .now) ok),
     )
 
@@ -52,5 +54,5 @@ returns-3 c =
 pub mend-spec : {M : Type 1} → statement M
 mend-spec =
     tie.close
-    (tie.spec (λ c κs. search needs) (λ c. search needs) replay-requires write-mended-requires (λ c. search needs) (λ c. search needs) (λ c. search needs) returns
+    (tie.spec (λ c κs. search needs) (λ c. search needs) walk-requires write-mended-requires (λ c. search needs) (λ c. search needs) (λ c. search needs) returns
     (λ c. search needs) returns-2 returns-3)

@@ -7,7 +7,7 @@ use lib.ListN.{length, length-set}
 use borrow.Author.Needs.{needs}
 use Rattle.zsrm.specs.Given.{given}
 use Rattle.zsrm.specs.Mend.{differs}
-use Rattle.bits.proofs.Below.{count-most}
+use Rattle.bits.proofs.Laws.Below.{count-most}
 use Rattle.zsrm.proofs.Laws.Mending.{Mending, mend-chosen, mending-all, mending-may, mending-more, mending-none}
 use Rattle.tables.proofs.Laws.Accepted.{lists-few}
 use Rattle.zsrm.proofs.mending.mend_from.Statement.{statement}
@@ -26,8 +26,8 @@ loop-holds c =
     let a = start .args in
     (omega arith, refl, mending-none (given (a .mode) (a .tasks .now) (a .jobs .now)) (a .start) (a .claimed .now) (a .into .now) (start .pre .1 .0))
 
-taken-requires : tie.Need-taken-requires Inv-loop μ-loop
-taken-requires c κs =
+advance-with-requires : tie.Need-advance-with-requires Inv-loop μ-loop
+advance-with-requires c κs =
     let at = c .before .before .before .before .before in
     let start = at .before .before .before .before .before in
     let a = start .args in
@@ -44,12 +44,18 @@ taken-requires c κs =
       ),
     )
 
-counted-requires : tie.Need-counted-requires Inv-loop μ-loop
-counted-requires c κs =
+count-if-requires : tie.Need-count-if-requires Inv-loop μ-loop
+count-if-requires c κs =
     let at = c .before .before .before .before .before .before in
     let start = at .before .before .before .before .before in
     let fits = start .pre .1 .1 in
-    omega (arith, at .loop .inv .2 .compared, at .loop .inv .1, count-most (differs (start .args .claimed .now) (at .loop .into)) (at .loop .t), c .before .before .before .before .before .loop-test .taken)
+    omega (
+      arith,
+      at .loop .inv .2 .compared,
+      at .loop .inv .1,
+      count-most (differs (start .args .claimed .now) (at .loop .into)) (at .loop .t),
+      c .before .before .before .before .before .loop-test .taken,
+    )
 
 loop-again : tie.Need-loop-again Inv-loop μ-loop
 loop-again c =
@@ -65,7 +71,7 @@ loop-again c =
       omega arith,
       length-set (at .loop .into) (at .loop .t) _ ∙ at .loop .inv .1,
       mending-more g (a .start) (a .claimed .now) (at .loop .rec) (at .loop .into) (at .loop .changed) (at .loop .t) (at .loop .inv .2) ok more
-          (omega (arith, at .loop .inv .1)) (omega (arith, at .loop .inv .1)) _ _ _ chose (c .before .taken .ensures) (c .counted .ensures),
+          (omega (arith, at .loop .inv .1)) (omega (arith, at .loop .inv .1)) _ _ _ chose (c .before .advance-with .ensures) (c .count-if .ensures),
     )
 
 returns : tie.Need-returns Inv-loop μ-loop
@@ -85,4 +91,4 @@ mend-from-spec =
     (λ c κs. lists-few _ (c .before .before .before .before .before .before .before .pre .0 .0))
     (λ c κs. lists-few _ (c .before .before .before .before .before .before .before .before .pre .0 .0))
     (λ c κs. lists-few _ (c .before .before .before .before .before .before .before .before .before .pre .0 .0))
-    taken-requires (λ c. search needs) (λ c. search needs) counted-requires (λ c. search needs) (λ c. search needs) loop-again (λ c. search needs) returns)
+    advance-with-requires (λ c. search needs) (λ c. search needs) count-if-requires (λ c. search needs) (λ c. search needs) loop-again (λ c. search needs) returns)

@@ -1,18 +1,15 @@
 -- The three numbers and the standing, as the calls answer them; none of the numbers exceeds 16,384 before the tick, so none wraps.
-use Prim.Native.Nat.{ℕ, _+_, _≤_}
-use mathlib.Core.Bool.{Bool, true, false, cond}
+use Prim.Native.Nat.{ℕ, _+_}
+use mathlib.Core.Bool.{Bool, cond}
 use native.Mathlib.Omega.{arith}
 use mathlib.Core.Path.{ap, ap₂, _∙_}
 use lib.Dec.{eqb}
 use borrow.Author.Needs.{needs}
+use Rattle.bits.proofs.Laws.Bools.{at-most-one}
 use Rattle.zsrm.specs.Code.Next.{nextStanding}
 use Rattle.zsrm.proofs.Laws.Next.{same-place}
 use Rattle.zsrm.proofs.next.next_place.Statement.{statement}
 use Rattle.zsrm.proofs.next.next_place.Tie as tie
-
-at-most-one : (b : Bool) → cond b 1 0 ≤ 1
-at-most-one true = omega arith
-at-most-one false = omega arith
 
 returns : tie.Need-returns
 returns c =

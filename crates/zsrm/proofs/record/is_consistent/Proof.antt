@@ -6,7 +6,7 @@ use native.Mathlib.Omega.{arith}
 use lib.Dec.{leb}
 use borrow.Author.Needs.{needs}
 use Rattle.bits.specs.Below.{every}
-use Rattle.bits.proofs.Below.{every-on}
+use Rattle.bits.proofs.Laws.Below.{every-on}
 use Rattle.zsrm.specs.Record.{placeAt, doneAt, standingAt, soundAt, consistent}
 use Rattle.zsrm.specs.Given.{given}
 use Rattle.zsrm.proofs.record.is_consistent.Statement.{statement}
@@ -22,8 +22,11 @@ loop-again : tie.Need-loop-again Inv-loop μ-loop
 unfolding soundAt doneAt standingAt placeAt
 loop-again c =
     let at = c .before .before .before in
-    let start = c .before .before .before .before .before .before in
-    (omega arith, every-on (soundAt (given (start .args .mode) (start .args .tasks .now) (start .args .jobs .now)) (start .args .t1)) (at .loop .j) (at .loop .every) _ _ (at .loop .inv .1) (c .is-sound-at .ensures) refl)
+    let start = c .before .before .before .before .before .before in (
+      omega arith,
+      every-on (soundAt (given (start .args .mode) (start .args .tasks .now) (start .args .jobs .now)) (start .args .t1))
+          (at .loop .j) (at .loop .every) _ _ (at .loop .inv .1) (c .is-sound-at .ensures) refl,
+    )
 
 returns : tie.Need-returns Inv-loop μ-loop
 unfolding consistent
@@ -35,4 +38,5 @@ returns c =
 
 pub is-consistent-spec : {M : Type 1} → statement M
 is-consistent-spec =
-    tie.close (tie.spec Inv-loop μ-loop (λ c. (omega arith, unfold every in refl)) (λ c. search needs) (λ c. search needs) (λ c. search needs) (λ c κs. search needs) (λ c. search needs) (λ c. search needs) loop-again (λ c κs. search needs) returns)
+    tie.close (tie.spec Inv-loop μ-loop (λ c. (omega arith, unfold every in refl)) (λ c. search needs) (λ c. search needs)
+    (λ c. search needs) (λ c κs. search needs) (λ c. search needs) (λ c. search needs) loop-again (λ c κs. search needs) returns)

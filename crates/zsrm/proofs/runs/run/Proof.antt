@@ -24,16 +24,21 @@ returns c =
     let ok = sym (c .before .before .before .before .before .before .before .before .check-schedule .ensures) ∙ c .before .before .before .before .before .before .enum-told .given .1 in
     let from = c .before .before .before .before .before .fresh-record .ensures in
     let n = length (start .args .schedule .now) in (
-      c .or-blank .ensures ∙ run-done g (start .args .tie) (start .args .horizon) (start .args .schedule .now) ok _ (c .before .before .before .run-from .ensures .0 ∙ ap (λ (r : Record). finalBy g (choice g (start .args .tie)) r n) from),
-      run-writes g (start .args .tie) (start .args .horizon) (start .args .schedule .now) ok _ (c .before .before .before .run-from .ensures .1 ∙ ap (λ (r : Record). entriesBy g (choice g (start .args .tie)) r n) from),
+      c .or-blank .ensures ∙ run-done g (start .args .tie) (start .args .horizon) (start .args .schedule .now) ok _
+          (c .before .before .before .run-from .ensures .0 ∙ ap (λ (r : Record). finalBy g (choice g (start .args .tie)) r n) from),
+      run-writes g (start .args .tie) (start .args .horizon) (start .args .schedule .now) ok _
+          (c .before .before .before .run-from .ensures .1 ∙ ap (λ (r : Record). entriesBy g (choice g (start .args .tie)) r n) from),
     )
 
 returns-2 : tie.Need-returns-2
 returns-2 c =
     let start = c .before .before .before .before .before .before .before .before .before in
     let g = given (start .args .mode) (start .args .tasks .now) (start .args .jobs .now) in
-    let e = sym (c .before .before .before .before .before .check-schedule .ensures) ∙ c .before .before .before .checked .given .1 in
-    (c .or-blank2 .ensures ∙ run-refused g (start .args .tie) (start .args .horizon) (start .args .schedule .now) _ _ e _, run-keeps g (start .args .tie) (start .args .horizon) (start .args .schedule .now) _ _ e)
+    let e = sym (c .before .before .before .before .before .check-schedule .ensures) ∙ c .before .before .before .checked .given .1 in (
+      c .or-blank2 .ensures ∙ run-refused g (start .args .tie) (start .args .horizon) (start .args .schedule .now) _ _ e _,
+      run-keeps g (start .args .tie) (start .args .horizon) (start .args .schedule .now) _ _ e,
+    )
 
 pub run-spec : {M : Type 1} → statement M
-run-spec = tie.close (tie.spec (λ c κs. search needs) (λ c. search needs) (λ c κs. search needs) run-from-requires (λ c κs. search needs) (λ c. search needs) (λ c κs. search needs) (λ c κs. search needs) (λ c. search needs) returns returns-2)
+run-spec = tie.close (tie.spec (λ c κs. search needs) (λ c. search needs) (λ c κs. search needs) run-from-requires
+    (λ c κs. search needs) (λ c. search needs) (λ c κs. search needs) (λ c κs. search needs) (λ c. search needs) returns returns-2)

@@ -12,7 +12,8 @@ unfolding checkStep
 returns c =
     c .before3 .ensures
     ∙ ap₂ before (c .before .before .before .check-lists .ensures)
-    (c .before .before2 .ensures ∙ ap₂ before (c .before .before .before .before .check11 .ensures ∙ ap check11 (c .before .before .before .before .before .is-consistent .ensures)) (c .before .before .check12 .ensures))
+    (c .before .before2 .ensures ∙ ap₂ before
+    (c .before .before .before .before .check11 .ensures ∙ ap check11 (c .before .before .before .before .before .is-consistent .ensures)) (c .before .before .check12 .ensures))
 
 pub check-step-spec : {M : Type 1} → statement M
 check-step-spec = tie.close (tie.spec (λ c κs. search needs) (λ c κs. search needs) (λ c κs. search needs) (λ c κs. search needs) (λ c κs. search needs) (λ c κs. search needs) returns)

@@ -11,6 +11,7 @@ ended-word-spec =
     (tie.spec (λ c κs. search needs) (λ c κs. search needs) (λ c κs. search needs) (λ c κs. search needs)
     (λ c. let x = c .before .before .before in
     let pre = x .before .before .before .before .pre in
-    ended-se _ _ _ _ (pre .0) (pre .1) _ _ _ (sym (x .before .is-se .ensures) ∙ x .if1 .taken) (c .before .before .overrun-word .ensures) (c .before .greatest-criticality .ensures) (c .less-critical-word .ensures))
+    ended-se _ _ _ _ (pre .0) (pre .1) _ _ _ (sym (x .before .is-se .ensures) ∙ x .if1 .taken)
+    (c .before .before .overrun-word .ensures) (c .before .greatest-criticality .ensures) (c .less-critical-word .ensures))
     (λ c. let pre = c .before .before .before .before .pre in
     ended-s _ _ _ _ (pre .0) (pre .1) (sym (c .before .is-se .ensures) ∙ c .if1 .left)))

@@ -4,7 +4,7 @@ use mathlib.Core.Path.{_≡_, sym}
 use native.Mathlib.Omega.{arith}
 use borrow.Author.Needs.{needs}
 use Rattle.bits.specs.Below.{word}
-use Rattle.bits.proofs.Word.{upTo, upTo-none, collect}
+use Rattle.bits.proofs.Laws.Word.{upTo, upTo-none, collect}
 use Rattle.zsrm.specs.Record.{placeAt, standingAt}
 use Rattle.zsrm.specs.Tick.{alive}
 use Rattle.zsrm.proofs.Laws.View.{collected}
@@ -20,8 +20,11 @@ abbrev μ-loop : tie.MeasureT-loop
 loop-again : tie.Need-loop-again Inv-loop μ-loop
 unfolding alive standingAt placeAt
 loop-again c =
-    let at = c .before .before .before .before in
-    (omega arith, collect (alive (c .before .before .before .before .before .before .before .args .t1)) (at .loop .j) _ _ _ (at .loop .inv .1) (c .before .is-unfinished .ensures) (c .with-bit-if .ensures))
+    let at = c .before .before .before .before in (
+      omega arith,
+      collect (alive (c .before .before .before .before .before .before .before .args .t1))
+          (at .loop .j) _ _ _ (at .loop .inv .1) (c .before .is-unfinished .ensures) (c .with-bit-if .ensures),
+    )
 
 returns : tie.Need-returns Inv-loop μ-loop
 returns c =
@@ -30,4 +33,5 @@ returns c =
 pub alive-word-spec : {M : Type 1} → statement M
 alive-word-spec =
     tie.close
-    (tie.spec Inv-loop μ-loop (λ c κs. search needs) (λ c. (omega arith, sym (upTo-none _))) (λ c. search needs) (λ c. search needs) (λ c. search needs) (λ c κs. search needs) (λ c κs. search needs) (λ c. search needs) (λ c. search needs) loop-again returns)
+    (tie.spec Inv-loop μ-loop (λ c κs. search needs) (λ c. (omega arith, sym (upTo-none _))) (λ c. search needs) (λ c. search needs)
+    (λ c. search needs) (λ c κs. search needs) (λ c κs. search needs) (λ c. search needs) (λ c. search needs) loop-again returns)

@@ -5,10 +5,10 @@ use mathlib.Core.Path.{_≡_, ap₂, refl, _∙_}
 use native.Mathlib.Omega.{arith}
 use lib.Dec.{ltb}
 use borrow.Author.Needs.{needs}
-use Rattle.bits.specs.Below.{bit}
+use Rattle.bits.specs.Below.{bit, greatestKey}
+use Rattle.bits.proofs.Laws.Most.{greatest-key-all, greatest-key-more}
 use Rattle.tables.specs.Tables.{jobCriticality, lists}
-use Rattle.zsrm.specs.Code.View.{greatestKey, greatestCriticality}
-use Rattle.zsrm.proofs.Laws.View.{greatest-key-all, greatest-key-more}
+use Rattle.zsrm.specs.Code.View.{greatestCriticality}
 use Rattle.zsrm.proofs.tick.greatest_criticality.Statement.{statement}
 use Rattle.zsrm.proofs.tick.greatest_criticality.Tie as tie
 
@@ -24,7 +24,7 @@ loop-again c =
     let start = at .before .before .before .before in (
       omega arith,
       greatest-key-more (bit (start .args .among)) (jobCriticality (lists (start .args .tasks .now) (start .args .jobs .now))) (at .loop .j) _ _ (at .loop .inv .1)
-          (c .greater .ensures
+          (c .greater-if .ensures
           ∙ ap₂ (λ (b : Bool) (k : ℕ). cond (b && ltb (at .loop .most .0) k) k (at .loop .most .0)) (c .before .has-bit .ensures) (c .before .before .criticality-of .ensures)),
     )
 

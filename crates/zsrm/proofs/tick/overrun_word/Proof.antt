@@ -4,7 +4,7 @@ use mathlib.Core.Path.{_≡_, sym}
 use native.Mathlib.Omega.{arith}
 use borrow.Author.Needs.{needs}
 use Rattle.bits.specs.Below.{word}
-use Rattle.bits.proofs.Word.{upTo, upTo-none, collect}
+use Rattle.bits.proofs.Laws.Word.{upTo, upTo-none, collect}
 use mathlib.Core.Bool.{Bool}
 use Rattle.zsrm.specs.declared.record.Record.{Record}
 use Rattle.tables.specs.Tables.{Lists, lists}
@@ -28,16 +28,21 @@ loop-again : tie.Need-loop-again Inv-loop μ-loop
 unfolding doneAt placeAt
 loop-again c =
     let at = c .before .before .before .before in
-    let start = c .before .before .before .before .before .before .before .before in
-    (omega arith, collect (test (lists (start .args .tasks .now) (start .args .jobs .now)) (start .args .t1) (start .args .among) (start .args .entry)) (at .loop .j) _ _ _ (at .loop .inv .1) (c .before .overruns .ensures) (c .with-bit-if .ensures))
+    let start = c .before .before .before .before .before .before .before .before in (
+      omega arith,
+      collect (test (lists (start .args .tasks .now) (start .args .jobs .now)) (start .args .t1) (start .args .among) (start .args .entry))
+          (at .loop .j) _ _ _ (at .loop .inv .1) (c .before .overruns .ensures) (c .with-bit-if .ensures),
+    )
 
 returns : tie.Need-returns Inv-loop μ-loop
 unfolding overrunWord
 returns c =
     let start = c .before .before .before .before .before in
-    collected _ (test (lists (start .args .tasks .now) (start .args .jobs .now)) (start .args .t1) (start .args .among) (start .args .entry)) _ (c .before .loop .j) _ (c .before .before .job-count .ensures) (omega arith) (omega arith) (c .before .loop .inv .1)
+    collected _ (test (lists (start .args .tasks .now) (start .args .jobs .now)) (start .args .t1) (start .args .among) (start .args .entry))
+    _ (c .before .loop .j) _ (c .before .before .job-count .ensures) (omega arith) (omega arith) (c .before .loop .inv .1)
 
 pub overrun-word-spec : {M : Type 1} → statement M
 overrun-word-spec =
     tie.close
-    (tie.spec Inv-loop μ-loop (λ c κs. search needs) (λ c. (omega arith, sym (upTo-none _))) (λ c. search needs) (λ c. search needs) (λ c. search needs) (λ c κs. search needs) (λ c. search needs) (λ c κs. search needs) (λ c. search needs) (λ c. search needs) loop-again returns)
+    (tie.spec Inv-loop μ-loop (λ c κs. search needs) (λ c. (omega arith, sym (upTo-none _))) (λ c. search needs) (λ c. search needs)
+    (λ c. search needs) (λ c κs. search needs) (λ c. search needs) (λ c κs. search needs) (λ c. search needs) (λ c. search needs) loop-again returns)

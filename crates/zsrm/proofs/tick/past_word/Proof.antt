@@ -4,7 +4,7 @@ use mathlib.Core.Path.{_≡_, sym}
 use native.Mathlib.Omega.{arith}
 use borrow.Author.Needs.{needs}
 use Rattle.bits.specs.Below.{word}
-use Rattle.bits.proofs.Word.{upTo, upTo-none, collect}
+use Rattle.bits.proofs.Laws.Word.{upTo, upTo-none, collect}
 use Rattle.tables.specs.Tables.{lists}
 use Rattle.zsrm.specs.Code.View.{pastWord, isPast}
 use Rattle.zsrm.proofs.Laws.View.{collected}
@@ -20,16 +20,21 @@ abbrev μ-loop : tie.MeasureT-loop
 loop-again : tie.Need-loop-again Inv-loop μ-loop
 loop-again c =
     let at = c .before .before .before in
-    let start = c .before .before .before .before .before .before .before in
-    (omega arith, collect (isPast (lists (start .args .tasks .now) (start .args .jobs .now)) (start .args .among) (start .args .tick)) (at .loop .j) _ _ _ (at .loop .inv .1) (c .before .is-past .ensures) (c .with-bit-if .ensures))
+    let start = c .before .before .before .before .before .before .before in (
+      omega arith,
+      collect (isPast (lists (start .args .tasks .now) (start .args .jobs .now)) (start .args .among) (start .args .tick))
+          (at .loop .j) _ _ _ (at .loop .inv .1) (c .before .is-past .ensures) (c .with-bit-if .ensures),
+    )
 
 returns : tie.Need-returns Inv-loop μ-loop
 unfolding pastWord
 returns c =
     let start = c .before .before .before .before .before in
-    collected _ (isPast (lists (start .args .tasks .now) (start .args .jobs .now)) (start .args .among) (start .args .tick)) _ (c .before .loop .j) _ (c .before .before .job-count .ensures) (omega arith) (omega arith) (c .before .loop .inv .1)
+    collected _ (isPast (lists (start .args .tasks .now) (start .args .jobs .now)) (start .args .among) (start .args .tick))
+    _ (c .before .loop .j) _ (c .before .before .job-count .ensures) (omega arith) (omega arith) (c .before .loop .inv .1)
 
 pub past-word-spec : {M : Type 1} → statement M
 past-word-spec =
     tie.close
-    (tie.spec Inv-loop μ-loop (λ c κs. search needs) (λ c. (omega arith, sym (upTo-none _))) (λ c. search needs) (λ c. search needs) (λ c κs. search needs) (λ c κs. search needs) (λ c. search needs) (λ c. search needs) loop-again returns)
+    (tie.spec Inv-loop μ-loop (λ c κs. search needs) (λ c. (omega arith, sym (upTo-none _))) (λ c. search needs)
+    (λ c. search needs) (λ c κs. search needs) (λ c κs. search needs) (λ c. search needs) (λ c. search needs) loop-again returns)

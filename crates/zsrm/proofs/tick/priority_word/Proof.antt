@@ -4,7 +4,7 @@ use mathlib.Core.Path.{_≡_, sym, ap, _∙_}
 use native.Mathlib.Omega.{arith}
 use borrow.Author.Needs.{needs}
 use Rattle.bits.specs.Below.{word, bit}
-use Rattle.bits.proofs.Word.{keyed, keyed-none, keyed-collect}
+use Rattle.bits.proofs.Laws.Word.{keyed, keyed-none, keyed-collect}
 use Rattle.tables.specs.Tables.{jobPriority, lists}
 use Rattle.zsrm.specs.Tick.{someJob}
 use Rattle.zsrm.specs.Code.View.{hasPriority, priorityWord}
@@ -33,9 +33,16 @@ unfolding priorityWord someJob hasPriority
 returns c =
     let start = c .before .before .before .before .before in
     let all : c .before .loop .j ≡ c .before .before .job-count .result = omega arith in
-    c .before .loop .inv .1 ∙ ap (λ (k : ℕ). word 64 (keyed (bit (start .args .among)) (jobPriority (lists (start .args .tasks .now) (start .args .jobs .now))) k)) (all ∙ c .before .before .job-count .ensures)
+    c .before .loop .inv .1 ∙ ap (λ (k : ℕ). word 64 (keyed (bit (start .args .among)) (jobPriority (lists (start .args .tasks .now) (start .args .jobs .now))) k))
+    (all ∙ c .before .before .job-count .ensures)
 
 pub priority-word-spec : {M : Type 1} → statement M
 priority-word-spec =
     tie.close
-    (tie.spec Inv-loop μ-loop (λ c κs. search needs) (λ c. (omega arith, sym (keyed-none (bit (c .before .before .before .args .among)) (jobPriority (lists (c .before .before .before .args .tasks .now) (c .before .before .before .args .jobs .now))) 64))) (λ c. search needs) (λ c κs. search needs) (λ c. search needs) (λ c κs. search needs) (λ c κs. search needs) (λ c. search needs) (λ c. search needs) loop-again returns)
+    (tie.spec Inv-loop μ-loop (λ c κs. search needs)
+    (λ c. (
+      omega arith,
+      sym (keyed-none (bit (c .before .before .before .args .among))
+          (jobPriority (lists (c .before .before .before .args .tasks .now) (c .before .before .before .args .jobs .now))) 64),
+    )) (λ c. search needs)
+    (λ c κs. search needs) (λ c. search needs) (λ c κs. search needs) (λ c κs. search needs) (λ c. search needs) (λ c. search needs) loop-again returns)

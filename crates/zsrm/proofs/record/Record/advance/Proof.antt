@@ -1,6 +1,6 @@
 -- What is seen, chosen, ended and advanced to is the step of the definition.
 use Rattle.zsrm.proofs.Laws.Next.{next-fits, next-built}
-use Rattle.zsrm.proofs.Laws.Step.{our-choice, our-choice-runs, stepped-made}
+use Rattle.zsrm.proofs.Laws.View.{our-choice, our-choice-runs, stepped-made}
 use borrow.Author.Needs.{needs}
 use Rattle.zsrm.proofs.record.Record.advance.Statement.{statement}
 use Rattle.tables.proofs.Laws.Accepted.{lists-few}
@@ -15,7 +15,8 @@ returns c =
     let ok = start .pre .0 in
     let chose = our-choice g ok (start .args .tie) (start .args .self) _ _ (x .at .ensures) (c .before .before .before .before .choice .ensures) in
     let ended = c .before .before .before .ended-word .ensures in
-    let next = next-built g (start .args .self) _ (lists-few _ ok) (start .pre .1 .0) (our-choice-runs g ok (start .args .tie) (start .args .self) _ chose) _ _ _ _ (x .at .ensures) ended (c .before .before .ticked .ensures) (c .before .after .ensures) in
+    let next = next-built g (start .args .self) _ (lists-few _ ok) (start .pre .1 .0) (our-choice-runs g ok (start .args .tie) (start .args .self) _ chose)
+    _ _ _ _ (x .at .ensures) ended (c .before .before .ticked .ensures) (c .before .after .ensures) in
     stepped-made g ok (start .args .tie) (start .args .self) _ _ _ _ _ (x .at .ensures) chose next ended (c .ones .ensures)
 
 pub advance-spec : {M : Type 1} → statement M

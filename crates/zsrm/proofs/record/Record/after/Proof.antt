@@ -3,15 +3,15 @@ use Prim.Native.Nat.{_-_, _<_, _≤_}
 use mathlib.Core.Path.{refl}
 use native.Mathlib.Omega.{arith}
 use borrow.Author.Needs.{needs}
-use Rattle.bits.proofs.Arrays.{written-none, written-more, length-of-map}
+use Rattle.bits.proofs.Laws.Arrays.{written-none, written-more, length-of-map}
 use Rattle.zsrm.specs.Record.{empty, placeAt}
 use Rattle.zsrm.specs.Code.Next.{nextAt}
-use Rattle.zsrm.proofs.Laws.Next.{Made, made-held, next-at, next-made}
+use Rattle.zsrm.proofs.Laws.Next.{MadeUpTo, made-held, next-at, next-made}
 use Rattle.zsrm.proofs.record.Record.after.Statement.{statement}
 use Rattle.zsrm.proofs.record.Record.after.Tie as tie
 
 abbrev Inv-loop : tie.InvT-loop
-Inv-loop ticked jobs n t out₀ j₀ out j = (j ≤ n) × Made jobs (record { tick = t; previous = out₀ .previous; places = out₀ .places }) ticked out j
+Inv-loop ticked jobs n t out₀ j₀ out j = (j ≤ n) × MadeUpTo jobs (record { tick = t; previous = out₀ .previous; places = out₀ .places }) ticked out j
 
 abbrev μ-loop : tie.MeasureT-loop
 μ-loop ticked jobs n t out₀ j₀ out j = n - j
@@ -56,4 +56,5 @@ returns c =
 pub after-spec : {M : Type 1} → statement M
 after-spec =
     tie.close
-    (tie.spec Inv-loop μ-loop (λ c κs. search needs) (λ c. search needs) loop-holds (λ c. search needs) (λ c. search needs) (λ c. search needs) (λ c κs. search needs) (λ c. search needs) next-place-requires (λ c. search needs) (λ c. search needs) (λ c. search needs) (λ c. search needs) loop-again returns)
+    (tie.spec Inv-loop μ-loop (λ c κs. search needs) (λ c. search needs) loop-holds (λ c. search needs) (λ c. search needs) (λ c. search needs)
+    (λ c κs. search needs) (λ c. search needs) next-place-requires (λ c. search needs) (λ c. search needs) (λ c. search needs) (λ c. search needs) loop-again returns)

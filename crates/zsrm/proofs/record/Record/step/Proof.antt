@@ -20,7 +20,8 @@ returns c =
     let start = c .before .before .before .before .before .before in
     let g = given (start .args .mode) (start .args .tasks .now) (start .args .jobs .now) in
     c .advance .ensures
-    ∙ sym (unless-done refusedStep (stepped g (start .args .tie) (start .args .self)) (checkStep g (start .args .self)) (sym (c .before .before .before .check-step .ensures) ∙ c .before .enum-told .given .1))
+    ∙ sym (unless-done refusedStep (stepped g (start .args .tie) (start .args .self)) (checkStep g (start .args .self))
+    (sym (c .before .before .before .check-step .ensures) ∙ c .before .enum-told .given .1))
 
 returns-2 : tie.Need-returns-2
 unfolding stepAnswer
@@ -28,7 +29,8 @@ returns-2 c =
     let start = c .before .before .before .before .before .before .before in
     let g = given (start .args .mode) (start .args .tasks .now) (start .args .jobs .now) in
     c .refused-step .ensures
-    ∙ sym (unless-refused refusedStep (stepped g (start .args .tie) (start .args .self)) (checkStep g (start .args .self)) _ _ (sym (c .before .before .before .before .check-step .ensures) ∙ c .before .before .checked .given .1))
+    ∙ sym (unless-refused refusedStep (stepped g (start .args .tie) (start .args .self)) (checkStep g (start .args .self))
+    _ _ (sym (c .before .before .before .before .check-step .ensures) ∙ c .before .before .checked .given .1))
 
 pub step-spec : {M : Type 1} → statement M
 step-spec = tie.close (tie.spec (λ c κs. search needs) (λ c. search needs) advance-requires (λ c. search needs) (λ c κs. search needs) returns returns-2)

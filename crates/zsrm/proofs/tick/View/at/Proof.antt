@@ -9,4 +9,5 @@ at-spec =
     tie.close
     (tie.spec (λ c κs. search needs) (λ c κs. search needs) (λ c κs. search needs) (λ c κs. search needs) (λ c κs. search needs) (λ c κs. search needs)
     (λ c. let x = c .before .before .before .before in
-    view-made _ _ _ _ _ _ _ _ (x .before .alive-word .ensures) (x .past-word .ensures) (c .before .before .before .greatest-criticality .ensures) (c .before .before .less-critical-word .ensures) (c .before .without .ensures) (c .priority-word .ensures)))
+    view-made _ _ _ _ _ _ _ _ (x .before .alive-word .ensures) (x .past-word .ensures) (c .before .before .before .greatest-criticality .ensures)
+    (c .before .before .less-critical-word .ensures) (c .before .without .ensures) (c .priority-word .ensures)))

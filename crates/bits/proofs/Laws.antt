@@ -1,0 +1,8 @@
+-- The laws, one file per notion: proved once, and cited from then on.
+pub mod Bools
+pub mod Below
+pub mod Most
+pub mod Sums
+pub mod Lists
+pub mod Word
+pub mod Arrays

@@ -1,0 +1,14 @@
+-- The loop counts up to its end; nothing else is asked of it.
+use Prim.Native.Nat.{_-_, _≤_}
+use borrow.Author.Needs.{needs}
+use Rattle.desks.proofs.texts.some_text.Statement.{statement}
+use Rattle.desks.proofs.texts.some_text.Tie as tie
+
+pub some-text-spec : {M : Type 1} → statement M
+some-text-spec = tie.close
+    (tie.spec
+    (λ _ _ _ _ _ _. 0 ≤ 0)
+    (λ _ _ _ _ _ k. 4 - k)
+    (search needs) (search needs) (search needs) (search needs) (search needs) (search needs) (search needs) (search needs) (search needs)
+    (search needs) (search needs) (search needs) (search needs) (search needs) (search needs) (search needs) (search needs) (search needs)
+    (search needs) (search needs) (search needs) (search needs) (search needs) (search needs))

@@ -1,8 +1,0 @@
--- Either way the definition's own case.
-use native.Mathlib.Omega.{arith}
-use borrow.Author.Needs.{needs}
-use Rattle.zsrm.proofs.mending.counted.Statement.{statement}
-use Rattle.zsrm.proofs.mending.counted.Tie as tie
-
-pub counted-spec : {M : Type 1} → statement M
-counted-spec = tie.close (tie.spec (λ c. search needs) (λ c. rw (c .if1 .taken) (omega arith)) (λ c. rw (c .if1 .left) (omega arith)))
