@@ -47,7 +47,7 @@ static size_t shift(void) {
 }
 
 static void check_claim(const char *what, uint32_t want) {
-    lend_claim(&in, shift(), &out);
+    lend_claim(zsrm_claim, &in, shift(), &out);
     check(out.result == want, what, "claim", out.result, want);
     check_bytes(what, in.schedule);
 }
@@ -55,7 +55,7 @@ static void check_claim(const char *what, uint32_t want) {
 /* Both calls refuse, and no byte changes. */
 static void check_refused(const char *what, uint32_t number, uint32_t place) {
     uint32_t want = number + 256 * place;
-    lend_run(&in, shift(), &out);
+    lend_run(zsrm_run, &in, shift(), &out);
     check(out.result == want, what, "run", out.result, want);
     check_bytes(what, in.schedule);
     check_claim(what, want);
@@ -66,7 +66,7 @@ static void check_refused(const char *what, uint32_t number, uint32_t place) {
 
 /* The run gives this schedule, which is then a legal claim; it stays in the input. */
 static void check_run(const char *what, const uint8_t *schedule) {
-    lend_run(&in, shift(), &out);
+    lend_run(zsrm_run, &in, shift(), &out);
     check(out.result == 0, what, "run", out.result, 0);
     check_bytes(what, schedule);
     memcpy(in.schedule, schedule, in.schedule_len);

@@ -1,9 +1,7 @@
-/* Lists as bytes, and guarded calls of the library. */
+/* Lists as bytes, and guarded calls. */
 #include "lists.h"
 
 #include <string.h>
-
-#include "zsrm.h"
 
 enum { GUARD = 32, SHIFTS = 8, GUARD_BYTE = 0xA5, UNWRITTEN = 0xEE };
 
@@ -57,7 +55,7 @@ static uint8_t tasks_room[GUARD + SHIFTS + TASKS_ROOM + GUARD];
 static uint8_t jobs_room[GUARD + SHIFTS + JOBS_ROOM + GUARD];
 static uint8_t schedule_room[GUARD + SHIFTS + SCHEDULE_ROOM + GUARD];
 
-static uint8_t *lend(uint8_t *room, size_t shift, const uint8_t *list, size_t len) {
+static uint8_t *put_in(uint8_t *room, size_t shift, const uint8_t *list, size_t len) {
     uint8_t *lent = room + GUARD + shift;
     memset(lent - GUARD, GUARD_BYTE, GUARD);
     memcpy(lent, list, len);
@@ -77,30 +75,35 @@ static int untouched(const uint8_t *lent, const uint8_t *list, size_t len) {
     return guards_stand(lent, len) && memcmp(lent, list, len) == 0;
 }
 
-typedef uint32_t entry_point(uint32_t mode, const uint8_t *tasks, size_t tasks_len,
-                             const uint8_t *jobs, size_t jobs_len, uint32_t horizon,
-                             uint8_t *schedule, size_t schedule_len);
+struct lent {
+    uint8_t *tasks, *jobs, *schedule;
+};
 
-static void call(entry_point *f, const struct lists *in, size_t shift, struct outcome *out) {
-    uint8_t *tasks = lend(tasks_room, shift, in->tasks, in->tasks_len);
-    uint8_t *jobs = lend(jobs_room, (shift + 3) % SHIFTS, in->jobs, in->jobs_len);
-    uint8_t *schedule = lend(schedule_room, (shift + 6) % SHIFTS, in->schedule, in->schedule_len);
-    out->result = f(in->mode, tasks, in->tasks_len, jobs, in->jobs_len, in->horizon, schedule,
-                    in->schedule_len);
-    out->kept = untouched(tasks, in->tasks, in->tasks_len) &&
-                untouched(jobs, in->jobs, in->jobs_len) && guards_stand(schedule, in->schedule_len);
-    memcpy(out->schedule, schedule, in->schedule_len);
+static struct lent lend(const struct lists *in, size_t shift) {
+    struct lent lent;
+    lent.tasks = put_in(tasks_room, shift, in->tasks, in->tasks_len);
+    lent.jobs = put_in(jobs_room, (shift + 3) % SHIFTS, in->jobs, in->jobs_len);
+    lent.schedule = put_in(schedule_room, (shift + 6) % SHIFTS, in->schedule, in->schedule_len);
+    return lent;
 }
 
-static uint32_t claim(uint32_t mode, const uint8_t *tasks, size_t tasks_len, const uint8_t *jobs,
-                      size_t jobs_len, uint32_t horizon, uint8_t *schedule, size_t schedule_len) {
-    return zsrm_claim(mode, tasks, tasks_len, jobs, jobs_len, horizon, schedule, schedule_len);
+static void take_back(const struct lists *in, struct lent lent, struct outcome *out) {
+    out->kept = untouched(lent.tasks, in->tasks, in->tasks_len) &&
+                untouched(lent.jobs, in->jobs, in->jobs_len) &&
+                guards_stand(lent.schedule, in->schedule_len);
+    memcpy(out->schedule, lent.schedule, in->schedule_len);
 }
 
-void lend_run(const struct lists *in, size_t shift, struct outcome *out) {
-    call(zsrm_run, in, shift, out);
+void lend_run(run_call *run, const struct lists *in, size_t shift, struct outcome *out) {
+    struct lent lent = lend(in, shift);
+    out->result = run(in->mode, lent.tasks, in->tasks_len, lent.jobs, in->jobs_len, in->horizon,
+                      lent.schedule, in->schedule_len);
+    take_back(in, lent, out);
 }
 
-void lend_claim(const struct lists *in, size_t shift, struct outcome *out) {
-    call(claim, in, shift, out);
+void lend_claim(claim_call *claim, const struct lists *in, size_t shift, struct outcome *out) {
+    struct lent lent = lend(in, shift);
+    out->result = claim(in->mode, lent.tasks, in->tasks_len, lent.jobs, in->jobs_len, in->horizon,
+                        lent.schedule, in->schedule_len);
+    take_back(in, lent, out);
 }

@@ -1,4 +1,4 @@
-/* Input lists as bytes, and the library called on copies of them that stand between guard bytes. */
+/* Input lists as bytes, and calls on copies of them that stand between guard bytes. */
 #ifndef LISTS_H
 #define LISTS_H
 
@@ -39,8 +39,16 @@ void add_job(struct lists *in, uint32_t task, uint32_t arrival, uint32_t time);
 /* This horizon, and a schedule of its length filled with a value that no call writes. */
 void set_horizon(struct lists *in, uint32_t horizon);
 
-/* The library's answer on copies of the lists, at an odd or even address as `shift` says (0..7). */
-void lend_run(const struct lists *in, size_t shift, struct outcome *out);
-void lend_claim(const struct lists *in, size_t shift, struct outcome *out);
+/* Calls with the arguments of zsrm_run and of zsrm_claim. */
+typedef uint32_t run_call(uint32_t mode, const uint8_t *tasks, size_t tasks_len,
+                          const uint8_t *jobs, size_t jobs_len, uint32_t horizon,
+                          uint8_t *schedule, size_t schedule_len);
+typedef uint32_t claim_call(uint32_t mode, const uint8_t *tasks, size_t tasks_len,
+                            const uint8_t *jobs, size_t jobs_len, uint32_t horizon,
+                            const uint8_t *schedule, size_t schedule_len);
+
+/* The answer on copies of the lists, at an odd or even address as `shift` says (0..7). */
+void lend_run(run_call *run, const struct lists *in, size_t shift, struct outcome *out);
+void lend_claim(claim_call *claim, const struct lists *in, size_t shift, struct outcome *out);
 
 #endif

@@ -1,9 +1,11 @@
-/* Random lists, good and damaged: the library's answers against the simulator's, byte by byte.
+/* Random lists, good and damaged: the answers of the library and of both peers against the
+   simulator's, byte by byte.
    random [ROUNDS [SEED]] */
 #include <stdio.h>
 #include <stdlib.h>
 #include <string.h>
 
+#include "calls.h"
 #include "draw.h"
 #include "lists.h"
 #include "simulator.h"
@@ -20,7 +22,7 @@ static struct {
     unsigned long full, far, farthest;
     unsigned long done, refused[REFUSALS], ended, late_finished, late_ended;
     unsigned long legal, other_legal, not_legal, not_at_first, late_not_legal, claims_refused;
-    unsigned long differ;
+    unsigned long differ[ANSWERING];
 } count;
 
 /* ---- Showing ---- */
@@ -39,23 +41,24 @@ static void show_schedule(const char *name, const uint8_t *schedule) {
     printf("\n");
 }
 
-static void show_difference(const char *call, uint32_t want, const uint8_t *schedule) {
-    count.differ++;
-    if (count.differ > SHOWN)
+static void show_difference(int who, const char *call, uint32_t want, const uint8_t *schedule) {
+    count.differ[who]++;
+    if (count.differ[who] > SHOWN)
         return;
-    printf("%s differs: library %lu, simulator %lu%s\n", call, (unsigned long)out.result,
-           (unsigned long)want, out.kept ? "" : ", bytes outside the schedule changed");
+    printf("%s differs: %s %lu, simulator %lu%s\n", call, calls[who].name,
+           (unsigned long)out.result, (unsigned long)want,
+           out.kept ? "" : ", bytes outside the schedule changed");
     printf("  mode %lu, horizon %lu\n", (unsigned long)in.mode, (unsigned long)in.horizon);
     show_numbers("tasks", in.tasks, in.tasks_len, 7);
     show_numbers("jobs", in.jobs, in.jobs_len, 3);
     show_schedule("schedule before", in.schedule);
-    show_schedule("library's after", out.schedule);
+    show_schedule("its after", out.schedule);
     show_schedule("simulator's after", schedule);
 }
 
-static void compare(const char *call, uint32_t want, const uint8_t *schedule) {
+static void compare(int who, const char *call, uint32_t want, const uint8_t *schedule) {
     if (out.result != want || !out.kept || memcmp(out.schedule, schedule, in.schedule_len) != 0)
-        show_difference(call, want, schedule);
+        show_difference(who, call, want, schedule);
 }
 
 /* ---- Runs and claims ---- */
@@ -78,8 +81,10 @@ static uint32_t compare_run(void) {
     memcpy(run_of, in.schedule, in.schedule_len);
     uint32_t want = sim_run(in.mode, in.tasks, in.tasks_len, in.jobs, in.jobs_len, in.horizon,
                             run_of, in.schedule_len);
-    lend_run(&in, below(8), &out);
-    compare("run", want, run_of);
+    for (int who = 0; who < ANSWERING; who++) {
+        lend_run(calls[who].run, &in, below(8), &out);
+        compare(who, "run", want, run_of);
+    }
     if (want == 0) {
         count.done++;
         count_fates();
@@ -92,8 +97,10 @@ static uint32_t compare_run(void) {
 static void compare_claim(void) {
     uint32_t want = sim_claim(in.mode, in.tasks, in.tasks_len, in.jobs, in.jobs_len, in.horizon,
                               in.schedule, in.schedule_len);
-    lend_claim(&in, below(8), &out);
-    compare("claim", want, in.schedule);
+    for (int who = 0; who < ANSWERING; who++) {
+        lend_claim(calls[who].claim, &in, below(8), &out);
+        compare(who, "claim", want, in.schedule);
+    }
     if (want == 0) {
         count.legal++;
         count.other_legal += memcmp(in.schedule, run_of, in.schedule_len) != 0;
@@ -194,7 +201,8 @@ static void show_counts(unsigned long rounds) {
     printf("claim: %lu not legal, %lu of them after tick 8, %lu after tick 8192\n",
            count.not_legal, count.not_at_first, count.late_not_legal);
     printf("claim: %lu refused\n", count.claims_refused);
-    printf("random: %lu differ\n", count.differ);
+    for (int who = 0; who < ANSWERING; who++)
+        printf("random: %s: %lu differ\n", calls[who].name, count.differ[who]);
 }
 
 /* Every answer came, and every extent: else the lists that are drawn try less than they should. */
@@ -214,6 +222,13 @@ static int all_came(void) {
     return none == 0;
 }
 
+static int all_agree(void) {
+    unsigned long differ = 0;
+    for (int who = 0; who < ANSWERING; who++)
+        differ += count.differ[who];
+    return differ == 0;
+}
+
 int main(int argc, char **argv) {
     unsigned long rounds = argc > 1 ? strtoul(argv[1], NULL, 10) : ROUNDS;
     if (argc > 2)
@@ -226,5 +241,5 @@ int main(int argc, char **argv) {
             compare_claim();
     }
     show_counts(rounds);
-    return count.differ != 0 || (rounds >= ROUNDS && !all_came());
+    return !all_agree() || (rounds >= ROUNDS && !all_came());
 }

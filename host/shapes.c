@@ -1,4 +1,4 @@
-/* The inputs that are timed. */
+/* The inputs that are measured. */
 #include "shapes.h"
 
 /* Document 01's list A with the middle execution time 10: an overrun. */
@@ -65,3 +65,19 @@ const struct shape shapes[SHAPES] = {
     {"the same, all jobs overrunning", all_overload},
     {"the same, equal and no slack", all_equal},
 };
+
+void spread(struct lists *in, uint32_t mode, uint32_t tasks, uint32_t jobs, uint32_t horizon) {
+    uint32_t period = horizon * tasks / jobs, nominal = 3 * period / (4 * tasks);
+    clear(in, mode);
+    for (uint32_t i = 0; i < tasks; i++) {
+        const uint32_t slack = period / 2 + i * period / (4 * tasks);
+        const uint32_t task[7] = {period, period, nominal, 2 * nominal, 15 * i, 63 - 3 * i, slack};
+        add_task(in, task);
+    }
+    for (uint32_t j = 0; j < jobs; j++) {
+        uint32_t round = j / tasks, k = j % tasks;
+        add_job(in, 7 * k % tasks, round * period + k * period / (2 * tasks),
+                j % 5 < 2 ? 2 * nominal : nominal);
+    }
+    set_horizon(in, horizon);
+}

@@ -47,13 +47,26 @@ static size_t more(size_t a, size_t b) {
     return a > b ? a : b;
 }
 
+static size_t of_run, of_claim;
+
+/* What either call needs for the lists that stand there; a claim is made of the run's schedule. */
+static void measure(void) {
+    of_run = more(of_run, used(run));
+    of_claim = more(of_claim, used(claim));
+}
+
+/* The benchmark's inputs, and shapes that are made to need much: overruns, equal jobs, refusals. */
 int main(void) {
-    size_t base = used(nothing), of_run = 0, of_claim = 0;
-    for (int k = 0; k < SHAPES; k++) {
-        for (uint32_t mode = 0; mode <= 2; mode++) { /* mode 2 is refused */
+    static const uint32_t sizes[][2] = {{3, 9}, {16, 64}}, horizons[] = {1024, 16384};
+    size_t base = used(nothing);
+    for (uint32_t mode = 0; mode <= 2; mode++) { /* mode 2 is refused */
+        for (int k = 0; k < SHAPES; k++) {
             shapes[k].build(&in, mode);
-            of_run = more(of_run, used(run));
-            of_claim = more(of_claim, used(claim));
+            measure();
+        }
+        for (int k = 0; k < 4; k++) {
+            spread(&in, mode, sizes[k / 2][0], sizes[k / 2][1], horizons[k % 2]);
+            measure();
         }
     }
     if (of_run == SIZE || of_claim == SIZE) {

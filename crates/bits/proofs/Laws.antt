@@ -5,4 +5,5 @@ pub mod Most
 pub mod Sums
 pub mod Lists
 pub mod Word
+pub mod Sweep
 pub mod Arrays

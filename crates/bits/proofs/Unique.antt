@@ -3,11 +3,13 @@ use mathlib.Core.Path.{sym, _∙_, _≡_}
 use contract.Lifetimes.{Lfts}
 use Rattle.bits.proofs.has_bit.Reads as has-bit
 use Rattle.bits.proofs.highest.Reads as highest
+use Rattle.bits.proofs.lowest.Reads as lowest
 use Rattle.bits.proofs.one_if.Reads as one-if
 use Rattle.bits.proofs.ones.Reads as ones
 use Rattle.bits.proofs.with_bit.Reads as with-bit
 use Rattle.bits.proofs.with_bit_if.Reads as with-bit-if
 use Rattle.bits.proofs.without.Reads as without
+use Rattle.bits.proofs.without_lowest.Reads as without-lowest
 
 pub with-bit-one : (κs : Lfts 0) (a : _) (r s : _) (e f : _) → with-bit.Learnt κs a r e → with-bit.Learnt κs a s f → r ≡ s
 with-bit-one κs a r s e f p q = p ∙ sym q
@@ -26,6 +28,12 @@ ones-one κs a r s e f p q = p ∙ sym q
 
 pub highest-one : (κs : Lfts 0) (a : _) (r s : _) (e f : _) → highest.Learnt κs a r e → highest.Learnt κs a s f → r ≡ s
 highest-one κs a r s e f p q = p ∙ sym q
+
+pub lowest-one : (κs : Lfts 0) (a : _) (r s : _) (e f : _) → lowest.Learnt κs a r e → lowest.Learnt κs a s f → r ≡ s
+lowest-one κs a r s e f p q = p ∙ sym q
+
+pub without-lowest-one : (κs : Lfts 0) (a : _) (r s : _) (e f : _) → without-lowest.Learnt κs a r e → without-lowest.Learnt κs a s f → r ≡ s
+without-lowest-one κs a r s e f p q = p ∙ sym q
 
 pub one-if-one : (κs : Lfts 0) (a : _) (r s : _) (e f : _) → one-if.Learnt κs a r e → one-if.Learnt κs a s f → r ≡ s
 one-if-one κs a r s e f p q = p ∙ sym q

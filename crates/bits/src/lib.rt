@@ -1,9 +1,9 @@
-// 64-bit words: a bit set, the ones, the highest bit; and the number of a test.
+// 64-bit words: a bit set, the ones, the highest bit, and the set bits one by one from the lowest; and the number of a test.
 // Each function has one answer for every input, and `proofs/Laws/Word.antt` has the laws by which a caller reads it.
 ghost use mathlib.Core.Path.{_≡_};
 ghost use mathlib.Core.Bool.{cond};
-ghost use Rattle.bits.specs.Below.{count, greatest, bit};
-ghost use Rattle.bits.specs.Word.{withBit, without};
+ghost use Rattle.bits.specs.Below.{count, greatest, least, bit};
+ghost use Rattle.bits.specs.Word.{withBit, without, withoutLowest};
 
 // The word with bit p set too; for p of 64 or more the word as it is.
 pub fn with_bit(w: u64, p: u32) -> u64
@@ -48,6 +48,23 @@ pub fn highest(w: u64) -> u32
         return 64;
     }
     63 - u64::leading_zeros(w)
+}
+
+// The number of the lowest set bit, or 64 where no bit is set.
+pub fn lowest(w: u64) -> u32
+    ensures { λ r. ⌜ r ≡ least 64 (bit w) 64 ⌝ }
+{
+    u64::trailing_zeros(w)
+}
+
+// The word without its lowest set bit; 0 has none.
+pub fn without_lowest(w: u64) -> u64
+    ensures { λ r. ⌜ r ≡ withoutLowest w ⌝ }
+{
+    if w == 0 {
+        return 0;
+    }
+    w ^ (1u64 << lowest(w))
 }
 
 // 1 where the test passes, else 0.

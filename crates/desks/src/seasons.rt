@@ -193,7 +193,7 @@ fn with_job(row: Row, rec: Record, se: bool, tasks: &[u32], jobs: &[u32], j: usi
     let Standing::Finished(f) = standing else {
         return next;
     };
-    let took = less(f, job(jobs, i, ARRIVAL)) % 65536;
+    let took = less(f as u32, job(jobs, i, ARRIVAL)) % 65536;
     let low = if row.finished == 0 { took } else { row.least };
     next.least = least(low, took);
     next.greatest = if row.greatest < took {

@@ -107,6 +107,11 @@ pub fn wide(x: u32) -> u64
     x as u64
 }
 
+// A number as a record keeps it, in 16 bits; what stands above them is dropped.
+pub fn short(x: u32) -> u16 {
+    (x % 65536) as u16
+}
+
 pub fn at(list: &[u32], i: usize) -> u32 {
     if i < list.len() { list[i] } else { 0 }
 }

@@ -63,7 +63,7 @@ fn with_response(row: Row, arrival: u32, standing: Standing) -> Row
         Standing::NotArrived => row,
         Standing::Unfinished => row,
         Standing::Finished(f) => {
-            let took = response_time(arrival, f);
+            let took = response_time(arrival, f as u32);
             Row {
                 met: row.met,
                 late: row.late,

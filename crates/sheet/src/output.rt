@@ -117,8 +117,8 @@ fn put_instant(out: &mut [u8], at: usize, standing: Standing) -> usize
     match standing {
         Standing::NotArrived => put_byte(out, at, b'-'),
         Standing::Unfinished => put_byte(out, at, b'-'),
-        Standing::Finished(f) => put_number(out, at, f),
-        Standing::Ended(e) => put_number(out, at, e),
+        Standing::Finished(f) => put_number(out, at, f as u32),
+        Standing::Ended(e) => put_number(out, at, e as u32),
     }
 }
 
@@ -167,7 +167,7 @@ fn put_job(out: &mut [u8], at: usize, j: u32, verdict: Verdict, place: Place) ->
     let one = [j];
     let b = put_numbers(out, a, &one);
     let c = put_verdict(out, b, verdict, standing);
-    let two = [place.suspended, place.waited];
+    let two = [place.suspended as u32, place.waited as u32];
     let k = put_numbers(out, c, &two);
     put_byte(out, k, b'\n')
 }

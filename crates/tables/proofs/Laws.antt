@@ -4,3 +4,5 @@ pub mod Accepted
 pub mod Small
 pub mod Bytes
 pub mod Said
+pub mod Noted
+pub mod InBytes

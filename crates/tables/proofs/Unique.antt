@@ -1,13 +1,22 @@
 -- Each contract leaves one answer, and of `put_at` one content of the lent list: `Learnt` is what a function's contract says of the arguments,
 -- the result and the parameters at exit. No other function is lent a list to be written.
-use Prim.Native.Nat.{ℕ}
-use mathlib.Core.Path.{ap, sym, _∙_, _≡_}
+use Prim.Native.Nat.{_*_, _+_, ℕ}
+use mathlib.Core.List.{_++_, List, [], _∷_}
+use mathlib.Core.Path.{ap, refl, sym, _∙_, _≡_}
+use native.Mathlib.Omega.{arith}
+use lib.ListN.{getD, length, length-replicate, replicate}
+use lib.Seq.{getD-append-add}
 use contract.Lifetimes.{Lfts}
 use denote.Ref.{now}
 use Rattle.tables.specs.declared.fields.Criticality.{Criticality}
 use Rattle.tables.specs.declared.fields.Priority.{Priority}
+use Rattle.tables.specs.declared.fields.Task.{Task}
+use Rattle.tables.specs.Fields.{taskAt}
+use Rattle.tables.specs.Tables.{criticality, deadline, nominal, offset, overload, period, priority}
+use Rattle.tables.proofs.bytes.job_in.Reads as job-in
 use Rattle.tables.proofs.bytes.number_at.Reads as number-at
 use Rattle.tables.proofs.bytes.put_at.Reads as put-at
+use Rattle.tables.proofs.bytes.task_in.Reads as task-in
 use Rattle.tables.proofs.fields.Criticality.exceeds.Reads as exceeds
 use Rattle.tables.proofs.fields.Priority.equals.Reads as equals
 use Rattle.tables.proofs.fields.criticality_of.Reads as criticality-of
@@ -23,8 +32,11 @@ use Rattle.tables.proofs.refusals.check13.Reads as check13
 use Rattle.tables.proofs.refusals.check9.Reads as check9
 use Rattle.tables.proofs.refusals.check_jobs.Reads as check-jobs
 use Rattle.tables.proofs.refusals.check_lists.Reads as check-lists
+use Rattle.tables.proofs.refusals.check_lists_in.Reads as check-lists-in
 use Rattle.tables.proofs.refusals.check_schedule.Reads as check-schedule
+use Rattle.tables.proofs.refusals.check_task.Reads as check-task
 use Rattle.tables.proofs.refusals.check_tasks.Reads as check-tasks
+use Rattle.tables.proofs.refusals.check_tasks_in.Reads as check-tasks-in
 use Rattle.tables.proofs.refusals.refuse.Reads as refuse
 
 pub number-at-one : (κs : Lfts 1) (a : _) (r s : _) (e f : _) → number-at.Learnt κs a r e → number-at.Learnt κs a s f → r ≡ s
@@ -32,6 +44,12 @@ number-at-one κs a r s e f p q = p ∙ sym q
 
 pub put-at-one : (κs : Lfts 1) (a : _) (r s : _) (e f : _) → put-at.Learnt κs a r e → put-at.Learnt κs a s f → now (e .0) ≡ now (f .0)
 put-at-one κs a r s e f p q = p ∙ sym q
+
+pub task-in-one : (κs : Lfts 1) (a : _) (r s : _) (e f : _) → task-in.Learnt κs a r e → task-in.Learnt κs a s f → r ≡ s
+task-in-one κs a r s e f p q = p ∙ sym q
+
+pub job-in-one : (κs : Lfts 1) (a : _) (r s : _) (e f : _) → job-in.Learnt κs a r e → job-in.Learnt κs a s f → r ≡ s
+job-in-one κs a r s e f p q = p ∙ sym q
 
 pub job-at-one : (κs : Lfts 1) (a : _) (r s : _) (e f : _) → job-at.Learnt κs a r e → job-at.Learnt κs a s f → r ≡ s
 job-at-one κs a r s e f p q = p ∙ sym q
@@ -67,6 +85,26 @@ refuse-one κs a r s e f p q = p ∙ sym q
 pub before-one : (κs : _) (a : _) (r s : _) (e f : _) → before.Learnt κs a r e → before.Learnt κs a s f → r ≡ s
 before-one κs a r s e f p q = p ∙ sym q
 
+-- any fields are those of some table's task k
+task-listed : (task : Task) (k : ℕ) → (tasks : List ℕ) × (task ≡ taskAt tasks k)
+unfolding period deadline nominal overload criticality priority offset
+task-listed task k = (tasks, rw (first, at 1, at 2, at 3, at 4, at 5, at 6))
+  where
+    row : List ℕ
+    row = task .period ∷ task .deadline ∷ task .nominal ∷ task .overload ∷ task .criticality .0 ∷ task .priority .0 ∷ task .offset ∷ []
+
+    tasks : List ℕ
+    tasks = replicate (7 * k) 0 ++ row
+
+    at : (i : ℕ) → getD tasks (7 * k + i) 0 ≡ getD row i 0
+    at i = ap (λ (n : ℕ). getD tasks (n + i) 0) (sym (length-replicate (7 * k) 0)) ∙ getD-append-add (replicate (7 * k) 0) row i 0
+
+    first : getD tasks (7 * k) 0 ≡ task .period
+    first = ap (λ (n : ℕ). getD tasks n 0) (let e : 7 * k ≡ 7 * k + 0 = omega arith in e) ∙ at 0
+
+pub check-task-one : (κs : _) (a : _) (r s : _) (e f : _) → check-task.Learnt κs a r e → check-task.Learnt κs a s f → r ≡ s
+check-task-one κs a r s e f p q = let w = task-listed _ _ in p (w .0) (w .1) ∙ sym (q (w .0) (w .1))
+
 pub check-tasks-one : (κs : Lfts 1) (a : _) (r s : _) (e f : _) → check-tasks.Learnt κs a r e → check-tasks.Learnt κs a s f → r ≡ s
 check-tasks-one κs a r s e f p q = p ∙ sym q
 
@@ -75,6 +113,12 @@ check-jobs-one κs a r s e f p q = p ∙ sym q
 
 pub check-lists-one : (κs : Lfts 2) (a : _) (r s : _) (e f : _) → check-lists.Learnt κs a r e → check-lists.Learnt κs a s f → r ≡ s
 check-lists-one κs a r s e f p q = p ∙ sym q
+
+pub check-tasks-in-one : (κs : Lfts 1) (a : _) (r s : _) (e f : _) → check-tasks-in.Learnt κs a r e → check-tasks-in.Learnt κs a s f → r ≡ s
+check-tasks-in-one κs a r s e f p q = p ∙ sym q
+
+pub check-lists-in-one : (κs : Lfts 2) (a : _) (r s : _) (e f : _) → check-lists-in.Learnt κs a r e → check-lists-in.Learnt κs a s f → r ≡ s
+check-lists-in-one κs a r s e f p q = p ∙ sym q
 
 pub check9-one : (κs : _) (a : _) (r s : _) (e f : _) → check9.Learnt κs a r e → check9.Learnt κs a s f → r ≡ s
 check9-one κs a r s e f p q = p ∙ sym q

@@ -1,11 +1,14 @@
--- Numbers as bytes, the lowest byte first. A number's width is how many bytes it has.
+-- Numbers as bytes, the lowest byte first, and a number's width is how many bytes it has; then what is checked of a task table and a job
+-- list that lie in bytes, four for each number.
 use Prim.Native.Nat.{ℕ, zero, suc, _+_, _*_, _/_, _%_}
-use mathlib.Core.Bool.{cond}
+use mathlib.Core.Bool.{cond, not}
 use mathlib.Core.List.{List, [], _∷_, _++_}
-use lib.Dec.{leb}
+use lib.Dec.{eqb, leb}
 use lib.ListN.{length, getD}
 use lib.Seq.{sets}
 use Rattle.bits.specs.Below.{listFrom}
+use Rattle.tables.specs.declared.answers.Outcome.{Outcome}
+use Rattle.tables.specs.Refusals.{refuse, before, checkTasks, checkJobs}
 
 -- the number that begins at byte `at`; a byte past the end is 0
 unfoldable pub numberAt : ℕ → List ℕ → ℕ → ℕ
@@ -30,3 +33,18 @@ bytesOf width (x ∷ xs) = numberBytes width x ++ bytesOf width xs
 -- bytes in which a number is written at byte `at`; where it does not fit, they are as they were
 unfoldable pub putAt : ℕ → List ℕ → ℕ → ℕ → List ℕ
 putAt width bytes at x = cond (leb (at + width) (length bytes)) (sets bytes at (numberBytes width x)) bytes
+
+-- A byte count that makes no whole number of list entries gives that list's length refusal.
+unfoldable pub uneven : ℕ → ℕ → ℕ → Outcome
+uneven count width number = refuse (not (eqb (count % width) 0)) number 0
+
+-- 2, then the tasks ascending
+unfoldable pub checkTasksIn : List ℕ → Outcome
+checkTasksIn tasks = before (uneven (length tasks) 4 2) (checkTasks (numbersIn 4 tasks))
+
+-- 5, then the jobs ascending
+unfoldable pub checkJobsIn : List ℕ → List ℕ → Outcome
+checkJobsIn tasks jobs = before (uneven (length jobs) 4 5) (checkJobs (numbersIn 4 tasks) (numbersIn 4 jobs))
+
+unfoldable pub checkListsIn : List ℕ → List ℕ → Outcome
+checkListsIn tasks jobs = before (checkTasksIn tasks) (checkJobsIn tasks jobs)

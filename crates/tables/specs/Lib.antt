@@ -3,3 +3,4 @@ pub mod Refusals
 pub mod Bytes
 pub mod Said
 pub mod Fields
+pub mod Code

@@ -31,7 +31,7 @@ pub fn job_count(jobs: &[u32]) -> usize
 }
 
 // A task's fields.
-pub(crate) struct Task {
+pub struct Task {
     pub period: u32,
     pub deadline: u32,
     pub nominal: u32,

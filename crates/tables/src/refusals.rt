@@ -1,9 +1,19 @@
 // Document 01, "Refusal numbers": each check under its number, and the order of those that a task table and a job list meet.
 // The lists may be of any length and hold any numbers: a field past a list's end is 0, and no sum wraps.
 ghost use mathlib.Core.Path.{_≡_};
-ghost use Rattle.tables.specs.Tables.{lists};
-ghost use Rattle.tables.specs.Refusals.{refuse, before, outside, check3, check4, checkTasks, preceding, check6, check7, check8, checkJobs, checkLists, check9, check10, checkSchedule, check13};
+ghost use mathlib.Core.List.{List};
+ghost use Prim.Native.Nat.{ℕ, _+_, _≤_};
+ghost use lib.ListN.{getD, set};
+ghost use Rattle.tables.specs.Tables.{lists, taskCount};
+ghost use Rattle.tables.specs.Fields.{taskAt};
+ghost use Rattle.tables.specs.Refusals.{refuse, before, outside, check3, check4, checkTasks, check6, check7, check8, checkJobs, checkLists, check9, check10, checkSchedule, check13};
+ghost use Rattle.tables.specs.Bytes.{numbersIn, checkTasksIn, checkJobsIn, checkListsIn};
+ghost use Rattle.tables.specs.Code.{soonest, Noted, Seen};
 use crate::answers::Outcome;
+use crate::bytes::job_in;
+use crate::bytes::task_in;
+use crate::fields::Job;
+use crate::fields::Task;
 use crate::fields::job_at;
 use crate::fields::task_at;
 
@@ -36,10 +46,9 @@ fn outside(low: u32, high: u32, x: u32) -> bool
 }
 
 // 3: a field of task k is outside its range.
-fn check3(tasks: &[u32], k: u32) -> Outcome
-    ensures { λ r. ⌜ r ≡ check3 (now (tasks .entry)) k ⌝ }
+fn check3(task: Task, k: u32) -> Outcome
+    ensures { λ r. ⌜ ((tasks : List ℕ) → task ≡ taskAt tasks k → r ≡ check3 tasks k) ⌝ }
 {
-    let task = task_at(tasks, k);
     refuse(
         outside(1, 16384, task.period)
             | outside(1, 16384, task.deadline)
@@ -54,10 +63,9 @@ fn check3(tasks: &[u32], k: u32) -> Outcome
 }
 
 // 4: C > Co, D > T or Z > D.
-fn check4(tasks: &[u32], k: u32) -> Outcome
-    ensures { λ r. ⌜ r ≡ check4 (now (tasks .entry)) k ⌝ }
+fn check4(task: Task, k: u32) -> Outcome
+    ensures { λ r. ⌜ ((tasks : List ℕ) → task ≡ taskAt tasks k → r ≡ check4 tasks k) ⌝ }
 {
-    let task = task_at(tasks, k);
     refuse(
         (task.overload < task.nominal)
             | (task.period < task.deadline)
@@ -67,11 +75,11 @@ fn check4(tasks: &[u32], k: u32) -> Outcome
     )
 }
 
-// 3 before 4, for task k.
-fn check_one_task(tasks: &[u32], k: u32) -> Outcome
-    ensures { λ r. let ts = now (tasks .entry) in ⌜ r ≡ before (check3 ts k) (check4 ts k) ⌝ }
+// 3 before 4, for task k, whose fields are given.
+pub fn check_task(task: Task, k: u32) -> Outcome
+    ensures { λ r. ⌜ ((tasks : List ℕ) → task ≡ taskAt tasks k → r ≡ before (check3 tasks k) (check4 tasks k)) ⌝ }
 {
-    before(check3(tasks, k), check4(tasks, k))
+    before(check3(task, k), check4(task, k))
 }
 
 // 2: the task list's length is no multiple of 7, or there is no task, or over 16; then the tasks ascending.
@@ -84,78 +92,70 @@ pub fn check_tasks(tasks: &[u32]) -> Outcome
     }
     let mut found = Outcome::Done;
     for k in 0..count {
-        found = before(found, check_one_task(tasks, k as u32));
+        let task = task_at(tasks, k as u32);
+        found = before(found, check_task(task, k as u32));
     }
     found
 }
 
-// The nearest job of its task above job j in the list, or j itself where there is none.
-fn preceding(jobs: &[u32], j: u32) -> u32
-    ensures { λ r. ⌜ r ≡ preceding (now (jobs .entry)) j ⌝ }
+// 6, 7, 8 in this order, for job j: the table has so many tasks, the job above arrived at `above`, and the job's task allows it `from` then on.
+fn check_job(job: Job, task: Task, count: usize, above: u32, from: u64, j: u32) -> Outcome
+    ensures { λ r. ⌜ ((tasks jobs : List ℕ) → Seen tasks jobs j job task count above from
+        → r ≡ before (check6 tasks jobs j) (before (check7 jobs j) (check8 tasks jobs j))) ⌝ }
 {
-    let job = job_at(jobs, j);
-    let mut i = j;
-    while 0 < i {
-        i -= 1;
-        let above = job_at(jobs, i);
-        if above.task == job.task {
-            return i;
-        }
-    }
-    j
-}
-
-// 6: the job's task is not in the table, its arrival is over 16,384, or c > Co.
-fn check6(tasks: &[u32], jobs: &[u32], j: u32) -> Outcome
-    ensures { λ r. ⌜ r ≡ check6 (now (tasks .entry)) (now (jobs .entry)) j ⌝ }
-{
-    let job = job_at(jobs, j);
-    let task = task_at(tasks, job.task);
-    let known = (job.task as usize) < tasks.len() / 7;
-    refuse(
+    // 6: the job's task is not in the table, its arrival is over 16,384, or c > Co
+    let known = (job.task as usize) < count;
+    let six = refuse(
         !known | (16384 < job.arrival) | (task.overload < job.execution),
         6,
         j,
-    )
-}
-
-// 7: its arrival lies before that of the job above it in the list.
-fn check7(jobs: &[u32], j: u32) -> Outcome
-    ensures { λ r. ⌜ r ≡ check7 (now (jobs .entry)) j ⌝ }
-{
-    if 0 < j {
-        let job = job_at(jobs, j);
-        let above = job_at(jobs, j - 1);
-        refuse(job.arrival < above.arrival, 7, j)
-    } else {
-        Outcome::Done
-    }
-}
-
-// 8: it comes less than T after the preceding job of its task.
-fn check8(tasks: &[u32], jobs: &[u32], j: u32) -> Outcome
-    ensures { λ r. ⌜ r ≡ check8 (now (tasks .entry)) (now (jobs .entry)) j ⌝ }
-{
-    let job = job_at(jobs, j);
-    let i = preceding(jobs, j);
-    let earlier = job_at(jobs, i);
-    let task = task_at(tasks, job.task);
-    let soonest = (earlier.arrival as u64) + (task.period as u64);
-    refuse((i < j) & ((job.arrival as u64) < soonest), 8, j)
-}
-
-// 6, 7, 8 in this order, for job j.
-fn check_one_job(tasks: &[u32], jobs: &[u32], j: u32) -> Outcome
-    ensures { λ r. let ts = now (tasks .entry) in let js = now (jobs .entry) in
-        ⌜ r ≡ before (check6 ts js j) (before (check7 js j) (check8 ts js j)) ⌝ }
-{
-    let six = check6(tasks, jobs, j);
-    let seven = check7(jobs, j);
-    let eight = check8(tasks, jobs, j);
+    );
+    // 7: its arrival lies before that of the job above it in the list
+    let seven = refuse(job.arrival < above, 7, j);
+    // 8: it comes less than T after the preceding job of its task
+    let eight = refuse((job.arrival as u64) < from, 8, j);
     before(six, before(seven, eight))
 }
 
-// 5: the job list's length is no multiple of 3, or there are over 64 jobs; then the jobs ascending.
+// The soonest that a job of task k may arrive behind the first n jobs, by looking back at them.
+fn looked_back(tasks: &[u32], jobs: &[u32], n: u32, k: u32) -> u64
+    ensures { λ r. ⌜ r ≡ soonest (now (tasks .entry)) (now (jobs .entry)) n k ⌝ }
+{
+    let task = task_at(tasks, k);
+    let mut i = n;
+    while 0 < i {
+        i -= 1;
+        let job = job_at(jobs, i);
+        if job.task == k {
+            return (job.arrival as u64) + (task.period as u64);
+        }
+    }
+    0
+}
+
+// The same, as it is noted for the first 16 tasks. Only a table that is refused has more; their jobs are looked back at.
+fn soonest(noted: &[u64], tasks: &[u32], jobs: &[u32], n: u32, k: u32) -> u64
+    requires { ⌜ Noted (now tasks) (now jobs) n (now noted) ⌝ }
+    ensures { λ r. ⌜ r ≡ soonest (now (tasks .entry)) (now (jobs .entry)) n k ⌝ }
+{
+    if k < 16 {
+        noted[k as usize]
+    } else {
+        looked_back(tasks, jobs, n, k)
+    }
+}
+
+// A job is noted: the next of its task may come a period later.
+fn note(noted: &mut [u64], job: Job, task: Task)
+    ensures { λ _. ⌜ now (noted .exit) ≡ set (now (noted .entry)) (job .task) (job .arrival + task .period) ⌝ }
+{
+    let at = job.task as usize;
+    if at < noted.len() {
+        noted[at] = (job.arrival as u64) + (task.period as u64);
+    }
+}
+
+// 5: the job list's length is no multiple of 3, or there are over 64 jobs; then the jobs ascending, each looked at once.
 pub fn check_jobs(tasks: &[u32], jobs: &[u32]) -> Outcome
     ensures { λ r. ⌜ r ≡ checkJobs (now (tasks .entry)) (now (jobs .entry)) ⌝ }
 {
@@ -163,9 +163,17 @@ pub fn check_jobs(tasks: &[u32], jobs: &[u32]) -> Outcome
     if (jobs.len() % 3 != 0) | (64 < count) {
         return Outcome::Refused(5, 0);
     }
+    let known = tasks.len() / 7;
+    let mut noted = [0u64; 16];
+    let mut above: u32 = 0;
     let mut found = Outcome::Done;
     for j in 0..count {
-        found = before(found, check_one_job(tasks, jobs, j as u32));
+        let job = job_at(jobs, j as u32);
+        let task = task_at(tasks, job.task);
+        let from = soonest(&noted, tasks, jobs, j as u32, job.task);
+        found = before(found, check_job(job, task, known, above, from, j as u32));
+        note(&mut noted, job, task);
+        above = job.arrival;
     }
     found
 }
@@ -175,6 +183,67 @@ pub fn check_lists(tasks: &[u32], jobs: &[u32]) -> Outcome
     ensures { λ r. ⌜ r ≡ checkLists (lists (now (tasks .entry)) (now (jobs .entry))) ⌝ }
 {
     before(check_tasks(tasks), check_jobs(tasks, jobs))
+}
+
+// 2 to 4 for a table that lies in bytes; a count of them that makes no whole number is refused as the list's length.
+pub fn check_tasks_in(tasks: &[u8]) -> Outcome
+    ensures { λ r. ⌜ r ≡ checkTasksIn (now (tasks .entry)) ⌝ }
+{
+    let n = tasks.len() / 4;
+    let count = n / 7;
+    if (tasks.len() % 4 != 0) | ((n % 7 != 0) | ((count < 1) | (16 < count))) {
+        return Outcome::Refused(2, 0);
+    }
+    let mut found = Outcome::Done;
+    for k in 0..count {
+        let task = task_in(tasks, k as u32);
+        found = before(found, check_task(task, k as u32));
+    }
+    found
+}
+
+// What is noted for task k, 0 for a task past the noted ones.
+fn noted_for(noted: &[u64], k: u32) -> u64
+    ensures { λ r. ⌜ r ≡ getD (now (noted .entry)) k 0 ⌝ }
+{
+    let at = k as usize;
+    if at < noted.len() { noted[at] } else { 0 }
+}
+
+// 5 to 8 for a job list that lies in bytes, beside a table that has no more tasks than are noted.
+fn check_jobs_in(tasks: &[u8], jobs: &[u8]) -> Outcome
+    requires { ⌜ taskCount (numbersIn 4 (now tasks)) ≤ 16 ⌝ }
+    ensures { λ r. ⌜ r ≡ checkJobsIn (now (tasks .entry)) (now (jobs .entry)) ⌝ }
+{
+    let n = jobs.len() / 4;
+    let count = n / 3;
+    if (jobs.len() % 4 != 0) | ((n % 3 != 0) | (64 < count)) {
+        return Outcome::Refused(5, 0);
+    }
+    let known = tasks.len() / 4 / 7;
+    let mut noted = [0u64; 16];
+    let mut above: u32 = 0;
+    let mut found = Outcome::Done;
+    for j in 0..count {
+        let job = job_in(jobs, j as u32);
+        let task = task_in(tasks, job.task);
+        let from = noted_for(&noted, job.task);
+        found = before(found, check_job(job, task, known, above, from, j as u32));
+        note(&mut noted, job, task);
+        above = job.arrival;
+    }
+    found
+}
+
+// What every entry point that is given tasks and jobs in bytes checks first, without copying them.
+pub fn check_lists_in(tasks: &[u8], jobs: &[u8]) -> Outcome
+    ensures { λ r. ⌜ r ≡ checkListsIn (now (tasks .entry)) (now (jobs .entry)) ⌝ }
+{
+    let table = check_tasks_in(tasks);
+    match table {
+        Outcome::Done => check_jobs_in(tasks, jobs),
+        Outcome::Refused(number, k) => Outcome::Refused(number, k),
+    }
 }
 
 // 9: the horizon is over 16,384.

@@ -9,6 +9,7 @@ use drawn::list::IDLE;
 use drawn::list::job;
 use drawn::list::least;
 use drawn::list::less;
+use drawn::list::short;
 use zsrm::Place;
 use zsrm::Record;
 use zsrm::Standing;
@@ -27,36 +28,36 @@ fn some_standing(trial: u32, place: u32, tick: u32) -> Standing
         return Standing::Unfinished;
     }
     if kind == 2 {
-        return Standing::Finished(t);
+        return Standing::Finished(short(t));
     }
     if kind == 3 {
-        return Standing::Finished(any);
+        return Standing::Finished(short(any));
     }
     if kind == 4 {
-        Standing::Ended(t)
+        Standing::Ended(short(t))
     } else {
-        Standing::Ended(any)
+        Standing::Ended(short(any))
     }
 }
 
 fn with_times(p: Place, done: u32, suspended: u32, waited: u32) -> Place {
     let standing = p.standing;
     Place {
-        done,
-        suspended,
-        waited,
+        done: short(done),
+        suspended: short(suspended),
+        waited: short(waited),
         standing,
     }
 }
 
 // A place with other ticks lost: one more of either or of both; one moved from one number to another, which leaves the sum; or two whose
-// sum is right in 32 bits alone.
+// sum is right in 16 bits alone.
 fn with_losses(p: Place, trial: u32, place: u32) -> Place
     requires { ⌜ place < 50000 ⌝ }
 {
-    let d = p.done % 65536;
-    let s = p.suspended % 65536;
-    let w = p.waited % 65536;
+    let d = p.done as u32;
+    let s = p.suspended as u32;
+    let w = p.waited as u32;
     let near = draw(trial, place + 1, 3);
     match draw(trial, place, 9) {
         0 => with_times(p, d, s + 1, w),
@@ -66,8 +67,8 @@ fn with_losses(p: Place, trial: u32, place: u32) -> Place
         4 => with_times(p, d, s + least(w, 1), less(w, 1)),
         5 => with_times(p, less(d, 1), s, w + least(d, 1)),
         6 => with_times(p, d + least(s, 1), less(s, 1), w),
-        7 => with_times(p, d, 4294967295 - near, s + w + near + 1),
-        _ => with_times(p, d, s + w + near + 1, 4294967295 - near),
+        7 => with_times(p, d, 65535 - near, s + w + near + 1),
+        _ => with_times(p, d, s + w + near + 1, 65535 - near),
     }
 }
 
@@ -86,10 +87,11 @@ fn altered_place(p: Place, trial: u32, place: u32, tick: u32) -> Place
     } else {
         some_standing(trial, place + 1, tick)
     };
-    let fewer = if way == 1 { less(p.done, 1) } else { p.done };
-    let done = if way == 0 { p.done % 65536 + 1 } else { fewer };
+    let d = p.done as u32;
+    let fewer = if way == 1 { less(d, 1) } else { d };
+    let done = if way == 0 { d + 1 } else { fewer };
     Place {
-        done: if kind == 1 { p.done } else { done },
+        done: if kind == 1 { p.done } else { short(done) },
         suspended: p.suspended,
         waited: p.waited,
         standing,
@@ -118,9 +120,9 @@ fn some_previous(trial: u32, place: u32, jobs: u32) -> u16
 {
     match draw(trial, place, 8) {
         0 => IDLE,
-        1 => (jobs % 65536) as u16,
+        1 => short(jobs),
         2 => 65534,
-        _ => (draw(trial, place + 1, jobs) % 65536) as u16,
+        _ => short(draw(trial, place + 1, jobs)),
     }
 }
 
@@ -135,18 +137,18 @@ fn fitting_with(case: Case, place: u32, arrival: u32, c: u32, since: u32, done: 
     let instant = arrival % 65536 + done % 65536 + some;
     let ends = case.se & (arrival < instant) & (draw(trial, place + 1, 3) == 0);
     let standing = if done == c {
-        Standing::Finished(instant)
+        Standing::Finished(short(instant))
     } else if ends {
-        Standing::Ended(less(instant, 1))
+        Standing::Ended(short(less(instant, 1)))
     } else {
         Standing::Unfinished
     };
     let lost = if (done == c) | ends { some } else { spare };
     let suspended = draw(trial, place + 2, lost % 65536 + 1);
     Place {
-        done,
-        suspended,
-        waited: less(lost, suspended),
+        done: short(done),
+        suspended: short(suspended),
+        waited: short(less(lost, suspended)),
         standing,
     }
 }

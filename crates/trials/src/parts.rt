@@ -28,6 +28,7 @@ use drawn::list::least;
 use drawn::list::less;
 use drawn::list::no_line;
 use drawn::list::part_of_line;
+use drawn::list::short;
 use drawn::list::wide;
 use drawn::tally::Tally;
 use drawn::tally::add;
@@ -49,9 +50,9 @@ fn saved(rec: Record) -> Saved {
         let standing = place.standing;
         let fate = of_standing(standing);
         let i = 2 + 5 * j;
-        out[i] = place.done;
-        out[i + 1] = place.suspended;
-        out[i + 2] = place.waited;
+        out[i] = place.done as u32;
+        out[i + 1] = place.suspended as u32;
+        out[i + 2] = place.waited as u32;
         out[i + 3] = (fate % 4) as u32;
         out[i + 4] = (fate / 4 % 4294967296) as u32;
     }
@@ -61,8 +62,8 @@ fn saved(rec: Record) -> Saved {
 fn standing_of(kind: u32, instant: u32) -> Standing {
     match kind {
         0 => Standing::Unfinished,
-        1 => Standing::Finished(instant),
-        2 => Standing::Ended(instant),
+        1 => Standing::Finished(short(instant)),
+        2 => Standing::Ended(short(instant)),
         _ => Standing::NotArrived,
     }
 }
@@ -76,16 +77,16 @@ fn put_back(from: Saved) -> Record {
     };
     let mut rec = Record {
         tick: from[0],
-        previous: (from[1] % 65536) as u16,
+        previous: short(from[1]),
         places: [empty; 64],
     };
     for j in 0..64 {
         let i = 2 + 5 * j;
         let standing = standing_of(from[i + 3], from[i + 4]);
         rec.places[j] = Place {
-            done: from[i],
-            suspended: from[i + 1],
-            waited: from[i + 2],
+            done: short(from[i]),
+            suspended: short(from[i + 1]),
+            waited: short(from[i + 2]),
             standing,
         };
     }

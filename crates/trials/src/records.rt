@@ -16,7 +16,7 @@ fn place_holds(place: Place, jobs: &[u32], j: usize, left: u32, fate: u32, now: 
     let standing = place.standing;
     let coming = (now < job(jobs, j, ARRIVAL)) & (j < jobs.len() / 3);
     let meant = if coming { 3 } else { fate };
-    let done = wide(place.done) + wide(left) == wide(job(jobs, j, EXECUTION));
+    let done = wide(place.done as u32) + wide(left) == wide(job(jobs, j, EXECUTION));
     done & (of_standing(standing) == (meant as u64))
 }
 
@@ -25,7 +25,8 @@ pub(crate) fn holds(rec: Record, jobs: &[u32], s: Sim) -> bool {
     let mut same = (rec.tick == s.now) & (rec.previous == entry_of(s.ran));
     for j in 0..64 {
         let place = rec.places[j];
-        let lost = (place.suspended == s.held[j]) & (place.waited == s.waited[j]);
+        let held = (place.suspended as u32) == s.held[j];
+        let lost = held & ((place.waited as u32) == s.waited[j]);
         same = place_holds(place, jobs, j, s.left[j], s.fate[j], s.now) & lost & same;
     }
     same
@@ -79,10 +80,10 @@ pub(crate) fn taken_up(rec: Record, jobs: &[u32]) -> Sim {
     for j in 0..64 {
         if j < n {
             let place = rec.places[j];
-            left[j] = less(job(jobs, j, EXECUTION), place.done);
+            left[j] = less(job(jobs, j, EXECUTION), place.done as u32);
             fate[j] = fate_of(place, jobs, j);
-            held[j] = place.suspended;
-            waited[j] = place.waited;
+            held[j] = place.suspended as u32;
+            waited[j] = place.waited as u32;
         }
     }
     Sim {
@@ -124,18 +125,19 @@ fn place_fits(se: bool, jobs: &[u32], j: usize, place: Place, now: u32) -> bool 
     let fate = of_standing(standing);
     let a = wide(job(jobs, j, ARRIVAL));
     let c = job(jobs, j, EXECUTION);
+    let done = place.done as u32;
     if (jobs.len() / 3 <= j) | (wide(now) < a) {
-        return (fate == 3) & (place.done == 0);
+        return (fate == 3) & (done == 0);
     }
-    let timely = a + wide(place.done) <= wide(now);
+    let timely = a + wide(done) <= wide(now);
     if fate == 0 {
-        return timely & (place.done < c);
+        return timely & (done < c);
     }
     if fate % 4 == 1 {
-        return timely & (place.done == c) & (a + wide(c) <= fate / 4) & (fate / 4 <= wide(now));
+        return timely & (done == c) & (a + wide(c) <= fate / 4) & (fate / 4 <= wide(now));
     }
     if fate % 4 == 2 {
-        se & timely & (place.done < c) & (a <= fate / 4) & (fate / 4 < wide(now))
+        se & timely & (done < c) & (a <= fate / 4) & (fate / 4 < wide(now))
     } else {
         false
     }
@@ -146,8 +148,8 @@ fn time_until(standing: Standing, now: u32) -> u64 {
     match standing {
         Standing::NotArrived => 0,
         Standing::Unfinished => wide(now),
-        Standing::Finished(f) => wide(f),
-        Standing::Ended(e) => wide(e) + 1,
+        Standing::Finished(f) => wide(f as u32),
+        Standing::Ended(e) => wide(e as u32) + 1,
     }
 }
 
@@ -155,7 +157,7 @@ fn time_until(standing: Standing, now: u32) -> u64 {
 // added in 64 bits, where no sum comes round to a smaller one.
 fn losses_fit(jobs: &[u32], j: usize, place: Place, now: u32) -> bool {
     let standing = place.standing;
-    let lost = wide(place.suspended) + wide(place.waited);
+    let lost = wide(place.suspended as u32) + wide(place.waited as u32);
     let until = time_until(standing, now);
     if of_standing(standing) == 3 {
         return lost == 0;
@@ -163,7 +165,7 @@ fn losses_fit(jobs: &[u32], j: usize, place: Place, now: u32) -> bool {
     if until < lost {
         return false;
     }
-    until - lost == wide(job(jobs, j, ARRIVAL)) + wide(place.done)
+    until - lost == wide(job(jobs, j, ARRIVAL)) + wide(place.done as u32)
 }
 
 // Whether a record is consistent with the jobs.

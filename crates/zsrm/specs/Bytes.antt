@@ -1,8 +1,8 @@
 -- Document 01, the calls from C: every list is a run of bytes, each number little-endian in its own width, four bytes for tables and
 -- jobs, two for schedules; a result is one number. `numbersIn` of the crate `tables` are the numbers that bytes spell, `bytesOf` the bytes
 -- of numbers, each by the width.
-use Prim.Native.Nat.{ℕ, _+_, _*_, _/_, _%_}
-use mathlib.Core.Bool.{not, cond}
+use Prim.Native.Nat.{ℕ, _+_, _*_, _/_}
+use mathlib.Core.Bool.{cond}
 use mathlib.Core.List.{List}
 use lib.ListN.{length}
 use lib.Dec.{eqb, ltb}
@@ -13,10 +13,10 @@ use Rattle.tables.specs.declared.answers.Outcome.{Outcome}
 use Rattle.tables.specs.declared.answers.Outcome.the-variants.{Done, Refused}
 use Rattle.zsrm.specs.declared.answers.Claim.{Claim}
 use Rattle.zsrm.specs.Given.{Given, given}
-use Rattle.tables.specs.Refusals.{refuse, before, checkTasks, checkJobs, check9, check10, unless}
+use Rattle.tables.specs.Refusals.{refuse, before, check9, check10, unless}
 use Rattle.zsrm.specs.Run.{runEntries}
 use Rattle.zsrm.specs.Legal.{claim}
-use Rattle.tables.specs.Bytes.{bytesOf, numbersIn}
+use Rattle.tables.specs.Bytes.{bytesOf, checkListsIn, numbersIn, uneven}
 use Rattle.zsrm.specs.declared.answers.Claim.the-variants as claims
 
 -- The mode number is 0 (S) or 1 (SE).
@@ -27,21 +27,14 @@ modeOf number = cond (eqb number 0) S SE
 unfoldable pub check1 : ℕ → Outcome
 check1 mode = refuse (ltb 1 mode) 1 0
 
--- A byte count that makes no whole number of list entries gives that list's length refusal.
-unfoldable pub uneven : ℕ → ℕ → ℕ → Outcome
-uneven count width number = refuse (not (eqb (count % width) 0)) number 0
-
 -- what the bytes of the lists say
 unfoldable pub givenBytes : ℕ → List ℕ → List ℕ → Given
 givenBytes mode tasks jobs = given (modeOf mode) (numbersIn 4 tasks) (numbersIn 4 jobs)
 
--- 1, 2, the tasks, 5, the jobs, 9, 10; of the schedule the count of its bytes is checked
+-- 1, then the lists (2, the tasks, 5, the jobs), 9, 10; of the schedule the count of its bytes is checked
 unfoldable pub checkBytes : ℕ → List ℕ → List ℕ → ℕ → ℕ → Outcome
 checkBytes mode tasks jobs horizon count =
-    before (check1 mode)
-    (before (before (uneven (length tasks) 4 2) (checkTasks (numbersIn 4 tasks)))
-    (before (before (uneven (length jobs) 4 5) (checkJobs (numbersIn 4 tasks) (numbersIn 4 jobs)))
-    (before (check9 horizon) (before (uneven count 2 10) (check10 (count / 2) horizon)))))
+    before (check1 mode) (before (checkListsIn tasks jobs) (before (check9 horizon) (before (uneven count 2 10) (check10 (count / 2) horizon))))
 
 -- 0 for done, or a refusal's number plus 256 times its place
 unfoldable pub packedOutcome : Outcome → ℕ

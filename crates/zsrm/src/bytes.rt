@@ -1,22 +1,8 @@
-// Lists as runs of bytes: each number little-endian in its own width.
+// A schedule as a run of bytes: two for each entry, the lowest first.
 ghost use mathlib.Core.Path.{_≡_};
 ghost use Prim.Native.Nat.{_+_, _*_, _<_};
 ghost use lib.ListN.{length};
 ghost use Rattle.tables.specs.Bytes.{numberAt, putAt};
-ghost use Rattle.zsrm.specs.Code.Called.{decoded};
-use tables::number_at;
-
-// Writes the numbers of four bytes that a list begins with, as many as the longest list may have; past its end they are 0.
-pub(crate) fn decode(bytes: &[u8], numbers: &mut [u32])
-    requires { ⌜ length (now numbers) ≡ 192 ⌝ }
-    ensures { λ _. ⌜ now (numbers .exit) ≡ decoded (now (bytes .entry)) ⌝ }
-{
-    let mut i: usize = 0;
-    while i < 192 {
-        numbers[i] = number_at(bytes, i * 4);
-        i += 1;
-    }
-}
 
 // The number of two bytes at place i.
 pub(crate) fn number2(bytes: &[u8], i: usize) -> u16

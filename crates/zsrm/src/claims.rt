@@ -1,32 +1,31 @@
-// Document 01, "Legal schedules": a claimed schedule replayed tick by tick, up to the least tick that is not legal.
+// Document 01, "Legal schedules": a claimed schedule replayed from instant to instant, up to the least tick that is not legal.
 ghost use mathlib.Core.Path.{_≡_};
 ghost use mathlib.Core.Bool.{true};
-ghost use Prim.Native.Nat.{_≤_, _<_};
+ghost use Prim.Native.Nat.{_+_, _≤_, _<_};
 ghost use lib.ListN.{length};
 ghost use Rattle.tables.specs.declared.answers.Outcome.{Outcome};
 ghost use Rattle.tables.specs.Tables.{jobCount, lists};
 ghost use Rattle.tables.specs.Refusals.{checkLists};
-ghost use Rattle.zsrm.specs.Record.{consistent};
-ghost use Rattle.zsrm.specs.Code.View.{view};
-ghost use Rattle.zsrm.specs.Legal.{isFinishedAt, schedulingInstant, legalEntry};
-ghost use Rattle.zsrm.specs.Tick.{advanced, candidateOrIdle};
-ghost use Rattle.zsrm.specs.Code.Claims.{WalkedAs, instantAt, topOrIdle};
+ghost use Rattle.zsrm.specs.Legal.{isFinishedAt, schedulingInstant};
+ghost use Rattle.zsrm.specs.Code.Claims.{WalkedAs, instantAt};
+ghost use Rattle.zsrm.specs.Code.Underway.{repeated};
 ghost use Rattle.zsrm.specs.Given.{given};
 ghost use Rattle.zsrm.specs.Answers.{claimAnswer, replayAnswer};
 use crate::answers::Claim;
 use crate::answers::Replayed;
+use crate::gather::gathered;
+use crate::leap::ahead;
+use crate::leap::leap;
+use crate::leap::started;
+use crate::look;
+use crate::look::look;
 use crate::mode::Mode;
 use crate::mode::is_se;
 use crate::record::Place;
 use crate::record::Record;
 use crate::record::Standing;
 use crate::record::fresh_record;
-use crate::step::ended_word;
-use crate::tick::View;
-use crate::tick::has_priority;
-use tables::IDLE;
 use tables::Outcome;
-use tables::Priority;
 use tables::check_schedule;
 use tables::job_at;
 use tables::job_count;
@@ -40,7 +39,7 @@ fn is_finished_at(t: u32, standing: Standing) -> bool
     match standing {
         Standing::NotArrived => false,
         Standing::Unfinished => false,
-        Standing::Finished(f) => f == t,
+        Standing::Finished(f) => (f as u32) == t,
         Standing::Ended(_) => false,
     }
 }
@@ -59,7 +58,7 @@ fn is_instant_by(
 {
     let job = job_at(jobs, j);
     let standing = place.standing;
-    let reached = se & ((last as u32) == j) & (place.done == nominal_of(tasks, jobs, j));
+    let reached = se & ((last as u32) == j) & ((place.done as u32) == nominal_of(tasks, jobs, j));
     (job.arrival == t)
         | is_finished_at(t, standing)
         | (zero_slack_instant(tasks, jobs, j) == (t as u64))
@@ -86,57 +85,19 @@ pub(crate) fn is_instant(rec: Record, mode: Mode, tasks: &[u32], jobs: &[u32]) -
     false
 }
 
-// Whether the entry is a candidate, or idle with no candidate.
-fn is_top_or_idle(seen: View, entry: u16, tasks: &[u32], jobs: &[u32]) -> bool
-    ensures { λ r. ⌜ r ≡ topOrIdle (lists (now (tasks .entry)) (now (jobs .entry))) seen entry ⌝ }
+// As far as a schedule repeats the entry from t on, at most so many ticks.
+fn repeats(schedule: &[u16], t: usize, most: u32, entry: u16) -> u32
+    requires { ⌜ t + most ≤ length (now schedule) ⌝ }
+    ensures { λ r. ⌜ r ≡ repeated (now (schedule .entry)) t entry most ⌝ }
 {
-    let top = Priority(bits::highest(seen.ready));
-    let listed = (entry as usize) < job_count(jobs);
-    (listed & has_priority(seen.eligible, top, entry as u32, tasks, jobs))
-        | ((entry == IDLE) & (seen.ready == 0))
-}
-
-// Whether the entry is legal in the record's tick, behind the entry that the record keeps; what is seen is the view of the record.
-pub(crate) fn is_legal(
-    seen: View,
-    rec: Record,
-    mode: Mode,
-    entry: u16,
-    tasks: &[u32],
-    jobs: &[u32],
-) -> bool
-    requires { ⌜ checkLists (lists (now tasks) (now jobs)) ≡ Outcome.Done ⌝ }
-    requires { ⌜ seen ≡ view (lists (now tasks) (now jobs)) rec ⌝ }
-    ensures { λ r. ⌜ r ≡ legalEntry (given mode (now (tasks .entry)) (now (jobs .entry))) rec (rec .previous) entry ⌝ }
-{
-    let last = rec.previous;
-    if is_top_or_idle(seen, entry, tasks, jobs) {
-        if (rec.tick == 0) | (entry == last) {
-            true
-        } else {
-            is_instant(rec, mode, tasks, jobs)
+    let mut i: u32 = 0;
+    while i < most {
+        if schedule[t + i as usize] != entry {
+            return i;
         }
-    } else {
-        false
+        i += 1;
     }
-}
-
-// The record after its tick with an entry that may run; what is seen is the view of the record.
-pub(crate) fn advance_with(
-    seen: View,
-    rec: Record,
-    mode: Mode,
-    entry: u16,
-    tasks: &[u32],
-    jobs: &[u32],
-) -> Record
-    requires { ⌜ (checkLists (lists (now tasks) (now jobs)) ≡ Outcome.Done) × (seen ≡ view (lists (now tasks) (now jobs)) rec) ⌝ }
-    requires { ⌜ (consistent (given mode (now tasks) (now jobs)) rec ≡ true) × (rec .tick < 16384) ⌝ }
-    requires { ⌜ candidateOrIdle (given mode (now tasks) (now jobs)) rec entry ≡ true ⌝ }
-    ensures { λ r. ⌜ r ≡ advanced (given mode (now (tasks .entry)) (now (jobs .entry))) rec entry ⌝ }
-{
-    let ended = ended_word(seen, rec, mode, entry, tasks, jobs);
-    rec.after(seen.ticked(entry, ended, jobs), jobs)
+    most
 }
 
 // How many entries of a schedule are legal, up to the first that is not, and the record there.
@@ -145,20 +106,35 @@ pub(crate) struct Walked {
     pub record: Record,
 }
 
-// A whole schedule replayed, up to the least tick that is not legal.
+// A whole schedule replayed, up to the least tick that is not legal. At each instant its entry is looked at anew, also where it goes on;
+// between two of them it is legal exactly where it is the one before.
 pub(crate) fn walk(mode: Mode, tasks: &[u32], jobs: &[u32], schedule: &[u16]) -> Walked
     requires { ⌜ (checkLists (lists (now tasks) (now jobs)) ≡ Outcome.Done) × (length (now schedule) ≤ 16384) ⌝ }
     ensures { λ r. ⌜ WalkedAs (given mode (now (tasks .entry)) (now (jobs .entry))) (now (schedule .entry)) r ⌝ }
 {
-    let mut rec = fresh_record(jobs);
+    let g = gathered(tasks, jobs);
+    let n = job_count(jobs);
+    let mut s = started(fresh_record(jobs), n, &g);
     let mut t: usize = 0;
     while t < schedule.len() {
         let entry = schedule[t];
-        let seen = View::at(rec, tasks, jobs);
-        if is_legal(seen, rec, mode, entry, tasks, jobs) {
-            let next = advance_with(seen, rec, mode, entry, tasks, jobs);
-            rec = next;
-            t += 1;
+        let rec = s.record;
+        let se = is_se(mode);
+        let seen = look(s.alive, rec.tick, &g);
+        if look::is_top_or_idle(seen, entry, n, &g) {
+            let most = (schedule.len() - t) as u32;
+            let far = ahead(s, se, entry, most, n, &g);
+            let k = repeats(schedule, t, far.ticks, entry);
+            let next = leap(s, seen, se, entry, k, far.early, n, &g);
+            s = next;
+            t += k as usize;
+            if k < far.ticks {
+                let record = s.record;
+                return Walked {
+                    ticks: t as u32,
+                    record,
+                };
+            }
         } else {
             return Walked {
                 ticks: t as u32,
@@ -166,9 +142,10 @@ pub(crate) fn walk(mode: Mode, tasks: &[u32], jobs: &[u32], schedule: &[u16]) ->
             };
         }
     }
+    let record = s.record;
     Walked {
         ticks: t as u32,
-        record: rec,
+        record,
     }
 }
 

@@ -53,7 +53,7 @@ fn judge_standing(due: u64, h: u32, standing: Standing) -> Verdict
             either(due <= (h as u64), late, Verdict::Open)
         }
         Standing::Finished(f) => {
-            let late = Verdict::Late(lateness(due, f), true);
+            let late = Verdict::Late(lateness(due, f as u32), true);
             either((f as u64) <= due, Verdict::Met, late)
         }
         Standing::Ended(_) => Verdict::Ended,

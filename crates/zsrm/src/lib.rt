@@ -3,15 +3,24 @@
 mod answers;
 mod bytes;
 mod c;
+mod c_claim;
+mod c_run;
+mod calls;
 mod claims;
+mod compact;
+mod gap;
+mod gather;
 mod judging;
+mod leap;
+mod look;
+mod masks;
 mod mending;
 mod mode;
 mod next;
+mod reading;
 mod record;
 mod runs;
 mod step;
-mod tick;
 mod tie;
 mod witnesses;
 

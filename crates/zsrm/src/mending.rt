@@ -1,9 +1,9 @@
-// Request Eleven: a damaged claim mended. Its longest legal beginning is kept; from there on each tick's entry is chosen, and the claim's
-// is only compared with it.
+// Request Eleven: a damaged claim mended. Its longest legal beginning is kept; from there on entries are chosen, from instant to instant,
+// and the claim's are only compared with them.
 ghost use mathlib.Core.Path.{_≡_};
 ghost use mathlib.Core.Bool.{cond};
 ghost use Prim.Native.Nat.{_+_, _≤_, _<_};
-ghost use lib.ListN.{length, take};
+ghost use lib.ListN.{length, replicate, take};
 ghost use Rattle.tables.specs.declared.answers.Outcome.{Outcome};
 ghost use Rattle.tables.specs.Tables.{jobCount, lists};
 ghost use Rattle.tables.specs.Refusals.{checkLists};
@@ -14,17 +14,24 @@ ghost use Rattle.zsrm.specs.Given.{given};
 ghost use Rattle.zsrm.specs.Answers.{checkMend, mendAnswer, mendSchedule};
 use crate::answers::Mended;
 use crate::claims::Walked;
-use crate::claims::advance_with;
 use crate::claims::is_instant;
 use crate::claims::walk;
+use crate::gather::gathered;
+use crate::leap::ahead;
+use crate::leap::leap;
+use crate::leap::started;
+use crate::look::choice;
+use crate::look::look;
 use crate::mode::Mode;
+use crate::mode::is_se;
 use crate::record::Record;
-use crate::tick::View;
+use crate::runs::fill;
 use crate::tie::Tie;
 use tables::Outcome;
 use tables::before;
 use tables::check_schedule;
 use tables::check10;
+use tables::job_count;
 
 // What mending checks of its input: 2 to 9, and 10 of either list.
 fn check_mend(tasks: &[u32], jobs: &[u32], horizon: u32, entries: usize, lent: usize) -> Outcome
@@ -36,17 +43,20 @@ fn check_mend(tasks: &[u32], jobs: &[u32], horizon: u32, entries: usize, lent: u
     )
 }
 
-// The previous entry where the tick is above 0 and no scheduling instant, else the lowest candidate, which is given.
-fn kept_or(rec: Record, mode: Mode, lowest: u16, tasks: &[u32], jobs: &[u32]) -> u16
+// Whether the previous entry is kept: the tick is above 0 and no scheduling instant.
+fn keeps_previous(rec: Record, mode: Mode, tasks: &[u32], jobs: &[u32]) -> bool
     requires { ⌜ jobCount (now jobs) ≤ 64 ⌝ }
-    ensures { λ r. ⌜ r ≡ cond (keepsPrevious (given mode (now (tasks .entry)) (now (jobs .entry))) rec) (rec .previous) lowest ⌝ }
+    ensures { λ r. ⌜ r ≡ keepsPrevious (given mode (now (tasks .entry)) (now (jobs .entry))) rec ⌝ }
 {
     let instant = is_instant(rec, mode, tasks, jobs);
-    if (0 < rec.tick) & !instant {
-        rec.previous
-    } else {
-        lowest
-    }
+    (0 < rec.tick) & !instant
+}
+
+// The previous entry where it is kept, else the lowest candidate.
+fn kept_or(keeps: bool, previous: u16, lowest: u16) -> u16
+    ensures { λ r. ⌜ r ≡ cond keeps previous lowest ⌝ }
+{
+    if keeps { previous } else { lowest }
 }
 
 // One more where it counts.
@@ -57,8 +67,23 @@ fn count_if(counts: bool, n: u32) -> u32
     if counts { n + 1 } else { n }
 }
 
+// How many entries of a list are not the given one.
+fn count_others(entries: &[u16], entry: u16) -> u32
+    requires { ⌜ length (now entries) ≤ 16384 ⌝ }
+    ensures { λ r. ⌜ r ≡ differing (now (entries .entry)) (replicate (length (now (entries .entry))) entry) ⌝ }
+{
+    let mut others: u32 = 0;
+    let mut i: usize = 0;
+    while i < entries.len() {
+        let its = entries[i];
+        others = count_if(its != entry, others);
+        i += 1;
+    }
+    others
+}
+
 // Writes the entries that mending chooses from a record on, for as many ticks as the list has entries, and counts those that are not the
-// claimed ones.
+// claimed ones. A stretch begins at a scheduling instant, but for the first.
 fn mend_from(
     start: Record,
     mode: Mode,
@@ -74,19 +99,29 @@ fn mend_from(
     ensures writes { λ r. ⌜ now (into .exit) ≡ entriesBy (given mode (now (tasks .entry)) (now (jobs .entry)))
         (mendChoice (given mode (now (tasks .entry)) (now (jobs .entry)))) start (length (now (into .entry))) ⌝ }
 {
-    let mut rec = start;
+    let g = gathered(tasks, jobs);
+    let n = job_count(jobs);
+    let mut s = started(start, n, &g);
+    let mut keeps = keeps_previous(start, mode, tasks, jobs);
     let mut changed: u32 = 0;
     let mut t: usize = 0;
     while t < into.len() {
-        let entry = claimed[t];
-        let seen = View::at(rec, tasks, jobs);
-        let lowest = seen.choice(Tie::Lowest, rec.previous, tasks, jobs);
-        let chosen = kept_or(rec, mode, lowest, tasks, jobs);
-        let next = advance_with(seen, rec, mode, chosen, tasks, jobs);
-        into[t] = chosen;
-        changed = count_if(entry != chosen, changed);
-        rec = next;
-        t += 1;
+        let rec = s.record;
+        let se = is_se(mode);
+        let seen = look(s.alive, rec.tick, &g);
+        let lowest = choice(seen, Tie::Lowest, rec.previous, n, &g);
+        let chosen = kept_or(keeps, rec.previous, lowest);
+        let most = (into.len() - t) as u32;
+        let far = ahead(s, se, chosen, most, n, &g);
+        let k = far.ticks;
+        let end = t + k as usize;
+        let others = count_others(&claimed[t..end], chosen);
+        fill(into, t, k as usize, chosen);
+        let next = leap(s, seen, se, chosen, k, far.early, n, &g);
+        changed += others;
+        keeps = false;
+        s = next;
+        t = end;
     }
     changed
 }
@@ -131,7 +166,7 @@ fn write_mended(
     )
 }
 
-// A claimed schedule mended into a second list: its longest legal beginning, and then what is chosen tick by tick; refusals 2 to 10, the
+// A claimed schedule mended into a second list: its longest legal beginning, and then what is chosen from there; refusals 2 to 10, the
 // second list then keeping its entries.
 pub fn mend(
     mode: Mode,

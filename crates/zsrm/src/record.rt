@@ -1,7 +1,9 @@
 // Document 01, "The record", with request Eight's two numbers and request Nine's entry: the tick, the previous entry, and for each of 64
-// places the ticks done, suspended and waited, and one standing.
+// places the ticks done, suspended and waited, and one standing. In a consistent record each of a place's numbers is at most 16,384.
 ghost use mathlib.Core.Path.{_≡_};
 ghost use mathlib.Core.Bool.{_&&_};
+ghost use Prim.Native.Nat.{_+_, _≤_};
+ghost use lib.Dec.{leb, eqb};
 ghost use Rattle.tables.specs.Tables.{arrival, execution};
 ghost use Rattle.zsrm.specs.Record.{arrived, blank, freshPlace, fresh, soundPlace, accounted, soundPrevious, consistent, check11, check12, checkRoom};
 ghost use Rattle.zsrm.specs.Given.{isSE, given};
@@ -18,17 +20,17 @@ pub enum Standing {
     NotArrived,
     Unfinished,
     // with its instant
-    Finished(u32),
+    Finished(u16),
     // with its tick
-    Ended(u32),
+    Ended(u16),
 }
 
 pub struct Place {
-    pub done: u32,
+    pub done: u16,
     // ticks suspended while alive
-    pub suspended: u32,
+    pub suspended: u16,
     // ticks eligible while another job ran
-    pub waited: u32,
+    pub waited: u16,
     pub standing: Standing,
 }
 
@@ -66,33 +68,49 @@ fn has_arrived(jobs: &[u32], t: u32, j: u32) -> bool
     ((j as usize) < job_count(jobs)) & (job.arrival <= t)
 }
 
+// Whether n ticks from the instant a on pass no later than at t. What is left up to t is compared, as a list may name any instant and the
+// sum need not fit.
+fn is_by(a: u32, n: u32, t: u32) -> bool
+    ensures { λ r. ⌜ r ≡ leb (a + n) t ⌝ }
+{
+    if a <= t { n <= t - a } else { false }
+}
+
+// Whether n ticks from the instant a on pass exactly at t.
+fn is_just(a: u32, n: u32, t: u32) -> bool
+    ensures { λ r. ⌜ r ≡ eqb (a + n) t ⌝ }
+{
+    if a <= t { n == t - a } else { false }
+}
+
 // What consistency asks of one place, by its standing.
 fn is_sound(se: bool, here: bool, a: u32, c: u32, t: u32, done: u32, standing: Standing) -> bool
     ensures { λ r. ⌜ r ≡ soundPlace se here a c t done standing ⌝ }
 {
-    let room = (a as u64) + (done as u64) <= (t as u64);
+    let room = is_by(a, done, t);
     match standing {
         Standing::NotArrived => !here & (done == 0),
         Standing::Unfinished => here & (done < c) & room,
         Standing::Finished(f) => {
-            here & (done == c) & room & ((a as u64) + (c as u64) <= (f as u64)) & (f <= t)
+            here & (done == c) & room & is_by(a, c, f as u32) & ((f as u32) <= t)
         }
-        Standing::Ended(e) => se & here & (done < c) & room & (a <= e) & (e < t),
+        Standing::Ended(e) => {
+            se & here & (done < c) & room & (a <= (e as u32)) & ((e as u32) < t)
+        }
     }
 }
 
-// Whether the ticks done, suspended and waited account for all since arrival; in 64 bits, as a record may hold any numbers.
+// Whether the ticks done, suspended and waited account for all since arrival.
 fn is_accounted(a: u32, t: u32, place: Place) -> bool
     ensures { λ r. ⌜ r ≡ accounted a t place (place .standing) ⌝ }
 {
     let standing = place.standing;
-    let spent = (place.done as u64) + (place.suspended as u64) + (place.waited as u64);
-    let to = (a as u64) + spent;
+    let spent = (place.done as u32) + (place.suspended as u32) + (place.waited as u32);
     match standing {
         Standing::NotArrived => (place.suspended == 0) & (place.waited == 0),
-        Standing::Unfinished => to == (t as u64),
-        Standing::Finished(f) => to == (f as u64),
-        Standing::Ended(e) => to == (e as u64) + 1,
+        Standing::Unfinished => is_just(a, spent, t),
+        Standing::Finished(f) => is_just(a, spent, f as u32),
+        Standing::Ended(e) => is_just(a, spent, (e as u32) + 1),
     }
 }
 
@@ -110,7 +128,7 @@ fn is_sound_at(mode: Mode, jobs: &[u32], t: u32, j: u32, place: Place) -> bool
         job.arrival,
         job.execution,
         t,
-        place.done,
+        place.done as u32,
         standing,
     );
     sound & is_accounted(job.arrival, t, place)
@@ -141,11 +159,12 @@ pub(crate) fn is_consistent(rec: Record, mode: Mode, tasks: &[u32], jobs: &[u32]
 
 // The standing at t of a place at which nothing has run.
 pub(crate) fn opening(listed: bool, a: u32, c: u32, t: u32) -> Standing
+    requires { ⌜ t ≤ 16384 ⌝ }
     ensures { λ r. ⌜ r ≡ openingOf listed a c t ⌝ }
 {
     if listed & (a <= t) {
         if c == 0 {
-            Standing::Finished(a)
+            Standing::Finished(a as u16)
         } else {
             Standing::Unfinished
         }

@@ -1,8 +1,9 @@
-// Runs: the tick repeated, its entries written into the caller's list.
+// Runs, from instant to instant: their entries written into the caller's list.
 ghost use mathlib.Core.Path.{_≡_};
 ghost use mathlib.Core.Bool.{true};
 ghost use Prim.Native.Nat.{_+_, _≤_};
-ghost use lib.ListN.{length};
+ghost use lib.ListN.{length, replicate};
+ghost use lib.Seq.{sets};
 ghost use Rattle.tables.specs.declared.answers.Outcome.{Outcome};
 ghost use Rattle.tables.specs.Refusals.{checkLists};
 ghost use Rattle.zsrm.specs.Record.{consistent};
@@ -13,7 +14,14 @@ ghost use Rattle.tables.specs.Tables.{lists};
 ghost use Rattle.zsrm.specs.Tick.{choice};
 use crate::answers::Ran;
 use crate::answers::or_blank;
+use crate::gather::gathered;
+use crate::leap::ahead;
+use crate::leap::leap;
+use crate::leap::started;
+use crate::look::choice;
+use crate::look::look;
 use crate::mode::Mode;
+use crate::mode::is_se;
 use crate::record::Record;
 use crate::record::check_room;
 use crate::record::check11;
@@ -25,6 +33,19 @@ use tables::before;
 use tables::check_lists;
 use tables::check_schedule;
 use tables::check10;
+use tables::job_count;
+
+// The entry written k times, from t on.
+pub(crate) fn fill(schedule: &mut [u16], t: usize, k: usize, entry: u16)
+    requires { ⌜ t + k ≤ length (now schedule) ⌝ }
+    ensures { λ _. ⌜ now (schedule .exit) ≡ sets (now (schedule .entry)) t (replicate k entry) ⌝ }
+{
+    let mut i: usize = 0;
+    while i < k {
+        schedule[t + i] = entry;
+        i += 1;
+    }
+}
 
 // A run from any consistent record for as many ticks as the list has entries.
 pub(crate) fn run_from(
@@ -42,16 +63,24 @@ pub(crate) fn run_from(
     ensures writes { λ r. ⌜ now (schedule .exit) ≡ entriesBy (given mode (now (tasks .entry)) (now (jobs .entry)))
         (choice (given mode (now (tasks .entry)) (now (jobs .entry))) tie) start (length (now (schedule .entry))) ⌝ }
 {
-    let mut rec = start;
+    let g = gathered(tasks, jobs);
+    let n = job_count(jobs);
+    let mut s = started(start, n, &g);
     let mut t: usize = 0;
     while t < schedule.len() {
-        let stepped = rec.advance(mode, tie, tasks, jobs);
-        schedule[t] = stepped.entry;
-        let next = stepped.record;
-        rec = next;
-        t += 1;
+        let rec = s.record;
+        let se = is_se(mode);
+        let seen = look(s.alive, rec.tick, &g);
+        let entry = choice(seen, tie, rec.previous, n, &g);
+        let most = (schedule.len() - t) as u32;
+        let far = ahead(s, se, entry, most, n, &g);
+        let k = far.ticks;
+        fill(schedule, t, k as usize, entry);
+        let next = leap(s, seen, se, entry, k, far.early, n, &g);
+        s = next;
+        t += k as usize;
     }
-    rec
+    s.record
 }
 
 // Our run from the fresh record, its entries written into the caller's list; refusals 2 to 10, the list then keeping its entries.

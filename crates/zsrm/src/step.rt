@@ -1,18 +1,22 @@
-// Document 01, one tick from a record to the next: the public step and the fresh record, and the tick for those that have checked once.
+// Document 01, one tick from a record to the next: the public step and the fresh record.
 ghost use mathlib.Core.Path.{_≡_};
 ghost use mathlib.Core.Bool.{true};
-ghost use Prim.Native.Nat.{_≤_, _<_};
+ghost use Prim.Native.Nat.{_<_};
 ghost use Rattle.tables.specs.declared.answers.Outcome.{Outcome};
-ghost use Rattle.tables.specs.Tables.{jobCount, lists};
+ghost use Rattle.tables.specs.Tables.{lists};
 ghost use Rattle.tables.specs.Refusals.{checkLists};
 ghost use Rattle.zsrm.specs.Record.{consistent};
-ghost use Rattle.zsrm.specs.Tick.{endedWord};
-ghost use Rattle.zsrm.specs.Code.View.{view};
 ghost use Rattle.zsrm.specs.Given.{given};
 ghost use Rattle.zsrm.specs.Answers.{refusedStep, stepped, checkStep, freshAnswer, stepAnswer};
 use crate::answers::Ran;
 use crate::answers::Stepped;
 use crate::answers::or_blank;
+use crate::gather::gathered;
+use crate::leap::alive_in;
+use crate::look::choice;
+use crate::look::ended_in;
+use crate::look::look;
+use crate::look::ticked;
 use crate::mode::Mode;
 use crate::mode::is_se;
 use crate::record::Record;
@@ -20,35 +24,11 @@ use crate::record::check11;
 use crate::record::check12;
 use crate::record::fresh_record;
 use crate::record::is_consistent;
-use crate::tick::View;
-use crate::tick::greatest_criticality;
-use crate::tick::less_critical_word;
-use crate::tick::overrun_word;
 use crate::tie::Tie;
 use tables::Outcome;
 use tables::before;
 use tables::check_lists;
-
-// The jobs that are ended in the tick in which the entry runs; what is seen is the view of the record.
-pub(crate) fn ended_word(
-    seen: View,
-    rec: Record,
-    mode: Mode,
-    entry: u16,
-    tasks: &[u32],
-    jobs: &[u32],
-) -> u64
-    requires { ⌜ (jobCount (now jobs) ≤ 64) × (seen ≡ view (lists (now tasks) (now jobs)) rec) ⌝ }
-    ensures { λ r. ⌜ r ≡ endedWord (given mode (now (tasks .entry)) (now (jobs .entry))) rec entry ⌝ }
-{
-    if is_se(mode) {
-        let over = overrun_word(rec, seen.past, entry, tasks, jobs);
-        let most = greatest_criticality(over, tasks, jobs);
-        less_critical_word(seen.alive, most, tasks, jobs)
-    } else {
-        0
-    }
-}
+use tables::job_count;
 
 // A refused step's record is blank, and every other number in it is 0.
 fn refused_step(number: u32, place: u32) -> Stepped
@@ -78,15 +58,17 @@ fn check_step(rec: Record, mode: Mode, tasks: &[u32], jobs: &[u32]) -> Outcome
 
 impl Record {
     // One tick of our run, on lists that passed their checks, from a consistent record before tick 16,384.
-    pub(crate) fn advance(self, mode: Mode, tie: Tie, tasks: &[u32], jobs: &[u32]) -> Stepped
+    fn advance(self, mode: Mode, tie: Tie, tasks: &[u32], jobs: &[u32]) -> Stepped
         requires { ⌜ checkLists (lists (now tasks) (now jobs)) ≡ Outcome.Done ⌝ }
         requires { ⌜ (consistent (given mode (now tasks) (now jobs)) self ≡ true) × (self .tick < 16384) ⌝ }
         ensures { λ r. ⌜ r ≡ stepped (given mode (now (tasks .entry)) (now (jobs .entry))) tie self ⌝ }
     {
-        let seen = View::at(self, tasks, jobs);
-        let entry = seen.choice(tie, self.previous, tasks, jobs);
-        let ended = ended_word(seen, self, mode, entry, tasks, jobs);
-        let record = self.after(seen.ticked(entry, ended, jobs), jobs);
+        let g = gathered(tasks, jobs);
+        let n = job_count(jobs);
+        let seen = look(alive_in(self, 0, n), self.tick, &g);
+        let entry = choice(seen, tie, self.previous, n, &g);
+        let ended = ended_in(seen, self, is_se(mode), entry, &g);
+        let record = self.after(1, ticked(seen, entry, ended, n), 0, n, &g);
         let ones = bits::ones(seen.ready);
         Stepped {
             outcome: Outcome::Done,

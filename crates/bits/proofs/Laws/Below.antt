@@ -40,6 +40,11 @@ module _ (f : ℕ → Bool) where
       go (inl p) ih = (n, omega arith, p)
       go (inr q) ih = let w = ih q in (w .0, omega arith, w .2)
 
+  -- a number that fails changes nothing
+  pub some-skip : (n : ℕ) → f n ≡ false → some (suc n) f ≡ some n f
+  unfolding some
+  some-skip n e = ap (λ (b : Bool). b || some n f) e
+
   pub some-false : (n k : ℕ) → k < n → some n f ≡ false → f k ≡ false
   some-false n k h e = never-true (f k) (λ p. clash (some-true n k h p) e)
 
@@ -59,6 +64,10 @@ module _ (f : ℕ → Bool) where
   unfolding every
   every-true zero h = refl
   every-true (suc n) h = and-true (h n (omega arith)) (every-true n (λ k l. h k (omega arith)))
+
+  pub least-skip : (n d : ℕ) → f n ≡ false → least (suc n) f d ≡ least n f d
+  unfolding least
+  least-skip n d e = ap (λ (b : Bool). least n f (cond b n d)) e
 
   -- where none passes the least is d; else it is below the bound and passes
   pub least-none : (n d : ℕ) → some n f ≡ false → least n f d ≡ d

@@ -1,7 +1,7 @@
 -- Where some number below a bound passes a test, one that passes has the greatest key, and `greatestKey` is that key.
 -- With the number itself for its key, that one is what `greatest` of specs/Below.antt finds.
 use Prim.Native.Nat.{ℕ, zero, suc, _+_, _≤_, _<_}
-use mathlib.Core.Path.{_≡_, refl, sym, ap, _∙_}
+use mathlib.Core.Path.{_≡_, refl, sym, ap, ap₂, _∙_}
 use mathlib.Core.Logic.{_⊎_, inl, inr}
 use mathlib.Core.Bool.{Bool, true, false, cond, _&&_, _||_}
 use native.Mathlib.Omega.{arith}
@@ -111,3 +111,23 @@ greatest-key-more f key j m v p q = rw add-one (q ∙ ap (λ (x : ℕ). cond (f 
 
 pub greatest-key-all : (f : ℕ → Bool) (key : ℕ → ℕ) (n j m : ℕ) → j ≤ n → n ≤ j → m ≡ greatestKey j f key → m ≡ greatestKey n f key
 greatest-key-all f key n j m a b p = p ∙ ap (λ (k : ℕ). greatestKey k f key) (omega arith)
+
+-- a number that fails changes nothing
+pub greatest-key-skip : (f : ℕ → Bool) (key : ℕ → ℕ) (j : ℕ) → f j ≡ false → greatestKey (suc j) f key ≡ greatestKey j f key
+unfolding greatestKey
+greatest-key-skip f key j e = ap (λ (b : Bool). cond (b && ltb (greatestKey j f key) (key j)) (key j) (greatestKey j f key)) e
+
+-- tests and keys that agree where the test passes
+pub greatest-key-same : (f h : ℕ → Bool) (key other : ℕ → ℕ) (n : ℕ) → ((k : ℕ) → k < n → f k ≡ h k) → ((k : ℕ) → k < n → h k ≡ true → key k ≡ other k)
+    → greatestKey n f key ≡ greatestKey n h other
+unfolding greatestKey
+greatest-key-same f h key other zero p q = refl
+greatest-key-same f h key other (suc n) p q =
+    ap₂ (λ (b : Bool) (x : ℕ). cond (b && ltb x (key n)) (key n) x) (p n (omega arith))
+    (greatest-key-same f h key other n (λ k l. p k (omega arith)) (λ k l. q k (omega arith)))
+    ∙ go (h n) (q n (omega arith))
+  where
+    go : (b : Bool) → (b ≡ true → key n ≡ other n)
+        → cond (b && ltb (greatestKey n h other) (key n)) (key n) (greatestKey n h other) ≡ cond (b && ltb (greatestKey n h other) (other n)) (other n) (greatestKey n h other)
+    go true e = ap (λ (x : ℕ). cond (ltb (greatestKey n h other) x) x (greatestKey n h other)) (e refl)
+    go false e = refl

@@ -1,23 +1,23 @@
 -- The laws of words and their bits: a word is fixed by its bits, and a word made from a test answers as the test does.
 -- A caller cites these and opens neither `word`, `bit` nor `withBit`.
 use Prim.Native.Nat.{_%_, _*_, _+_, _/_, _<_, _^_, suc, zero, zero-le, ℕ, _≤_}
-use mathlib.Core.Bool.{_&&_, Bool, cond, false, not, or-comm, or-false, or-true, true, _||_}
+use mathlib.Core.Bool.{_&&_, Bool, cond, false, false≢true, not, or-comm, or-false, or-true, true, _||_}
 use mathlib.Core.Logic.{inl, inr, _⊎_}
 use mathlib.Core.Path.{ap, ap₂, refl, sym, _∙_, _≡_}
 use native.Mathlib.Decide.{ℕ-discrete}
-use native.Mathlib.Nat.{add-zero, div-eq-of-lt, div-eq-of-lt-le, le-of-suc-le-suc, lt-of-lt-of-le, lt-of-not-le, mod-eq-of-lt}
+use native.Mathlib.Nat.{add-zero, div-eq-of-lt, div-eq-of-lt-le, div-one, le-of-suc-le-suc, lt-of-lt-of-le, lt-of-not-le, mod-eq-of-lt}
 use native.Mathlib.Nat.{mod-lt, mod-one, not-suc-le-zero, one-mul, pow-suc, pow-succ', zero-add, zero-mul}
 use native.Mathlib.Numerals.{add-one, one-add}
 use native.Mathlib.Omega.{arith}
 use lib.Bits.{and-block, bitAnd, bitOr, bitXor, or-block, xor-block}
-use lib.Count.{leading-top, leadingZeros, ones, ones-cat}
+use lib.Count.{leading-top, leadingZeros, ones, ones-cat, trailingZeros, under}
 use lib.Dec.{eqb, ltb}
-use lib.Pow.{mod-pow-add, pow-lt, pow-mono}
-use borrow.Author.Tests.{eq-eqb, le-ltb, lt-ltb, ltb-true, ne-eqb}
-use Rattle.bits.specs.Below.{bit, count, greatest, some, word}
-use Rattle.bits.specs.Word.{withBit, without}
-use Rattle.bits.proofs.Laws.Below.{count-same, greatest-none, greatest-same, last-or-below, none-passes}
-use Rattle.bits.proofs.Laws.Bools.{and-false-right, by-cond, clash, eqb-swap, same-test}
+use lib.Pow.{mod-pow-add, pow-lt, pow-mono, pow-pos, shr-shr}
+use borrow.Author.Tests.{eq-eqb, eqb-true, le-ltb, lt-ltb, ltb-true, ne-eqb}
+use Rattle.bits.specs.Below.{bit, count, greatest, least, some, word}
+use Rattle.bits.specs.Word.{withBit, without, withoutLowest}
+use Rattle.bits.proofs.Laws.Below.{count-same, greatest-none, greatest-same, last-or-below, least-found, least-same, none-passes, some-false}
+use Rattle.bits.proofs.Laws.Bools.{and-false-right, and-left, by-cond, clash, either, eqb-swap, same-test}
 use Rattle.bits.proofs.Laws.Most.{greatest-is}
 
 -- a bit as a number
@@ -53,6 +53,11 @@ pub word-none : (f : ℕ → Bool) (n : ℕ) → ((k : ℕ) → k < n → f k �
 unfolding word
 word-none f zero q = refl
 word-none f (suc n) q = rw (q n (omega arith), word-none f n (λ k l. q k (omega arith)))
+
+-- a number that fails changes nothing
+pub word-skip : (f : ℕ → Bool) (n : ℕ) → f n ≡ false → word (suc n) f ≡ word n f
+unfolding word
+word-skip f n e = rw (e, zero-add)
 
 -- the word of a number's low bits is the number without the others
 word-low : (w n : ℕ) → word n (bit w) ≡ w % 2 ^ n
@@ -227,6 +232,104 @@ highest-some w n d h l =
 pub highest-word : (f : ℕ → Bool) (n d : ℕ) → greatest n (bit (word n f)) d ≡ greatest n f d
 highest-word f n d = greatest-same (bit (word n f)) f n d (bit-word f n)
 
+-- the least that passes, told from the first number on
+least-first : (f : ℕ → Bool) (n d : ℕ) → least (suc n) f (suc d) ≡ cond (f 0) 0 (suc (least n (λ p. f (suc p)) d))
+unfolding least
+least-first f zero d = refl
+least-first f (suc n) d = ap (λ (x : ℕ). least (suc n) f x) (go (f (suc n))) ∙ least-first f n (cond (f (suc n)) n d)
+  where
+    go : (b : Bool) → cond b (suc n) (suc d) ≡ suc (cond b n d)
+    go true = refl
+    go false = refl
+
+half-bit : (w p : ℕ) → bit (w / 2) p ≡ bit w (suc p)
+unfolding bit
+half-bit w p = ap (λ (x : ℕ). eqb (x % 2) 1) (shr-shr w 1 p ∙ ap (λ (k : ℕ). w / 2 ^ k) (one-add p))
+
+first-bit : (w : ℕ) → eqb (w % 2) 1 ≡ bit w 0
+unfolding bit
+first-bit w = ap (λ (x : ℕ). eqb (x % 2) 1) (sym (div-one w))
+
+-- below the lowest bit of a number stand its trailing zeros
+pub lowest-bit : (w n : ℕ) → trailingZeros n w ≡ least n (bit w) n
+unfolding trailingZeros least
+lowest-bit w zero = refl
+lowest-bit w (suc n) =
+    ap (under (w % 2)) (lowest-bit (w / 2) n ∙ least-same (bit (w / 2)) (λ p. bit w (suc p)) n n (λ p _. half-bit w p))
+    ∙ first (w % 2) (least n (λ p. bit w (suc p)) n) (mod-lt w (omega arith))
+    ∙ ap (λ (b : Bool). cond b 0 (suc (least n (λ p. bit w (suc p)) n))) (first-bit w) ∙ sym (least-first (bit w) n n)
+  where
+    first : (d t : ℕ) → d < 2 → under d t ≡ cond (eqb d 1) 0 (suc t)
+    first zero t l = refl
+    first (suc zero) t l = refl
+    first (suc (suc d)) t l = absurd (omega arith)
+
+-- a word that is not 0 has a lowest bit
+pub lowest-set : (w : ℕ) → w < 2 ^ 64 → 0 < w → (least 64 (bit w) 64 < 64) × (bit w (least 64 (bit w) 64) ≡ true)
+lowest-set w h l = least-found (bit w) 64 64 (go (either (some 64 (bit w))))
+  where
+    go : (some 64 (bit w) ≡ true) ⊎ (some 64 (bit w) ≡ false) → some 64 (bit w) ≡ true
+    go (inl s) = s
+    go (inr s) = absurd (omega (arith, word-bits w 64 h, word-none (bit w) 64 (λ k m. some-false (bit w) 64 k m s)))
+
+-- without it the word comes by `w ^ (1 << lowest)`
+pub withoutLowest-xor : (w : ℕ) → w < 2 ^ 64 → 0 < w → bitXor w ((1 * 2 ^ least 64 (bit w) 64) % 2 ^ 64) ≡ withoutLowest w
+unfolding withoutLowest
+withoutLowest-xor w h l =
+    let s = lowest-set w h l in
+    ap₂ bitXor (sym (word-bits w 64 h)) (rw one-mul (mod-eq-of-lt (pow-lt (s .0))) ∙ sym (word-one 64 (least 64 (bit w) 64) (s .0)))
+    ∙ xor-words (bit w) (λ q. eqb q (least 64 (bit w) 64)) 64
+    ∙ word-same _ (λ p. bit w p && not (eqb p (least 64 (bit w) 64))) 64
+    (λ p _. go (bit w p) (eqb p (least 64 (bit w) 64)) (λ t. ap (bit w) (eqb-true p (least 64 (bit w) 64) t) ∙ s .1))
+  where
+    go : (b e : Bool) → (e ≡ true → b ≡ true) → cond b (not e) e ≡ (b && not e)
+    go true e k = refl
+    go false true k = absurd (false≢true (k refl))
+    go false false k = refl
+
+pub withoutLowest-none : withoutLowest 0 ≡ 0
+unfolding withoutLowest
+withoutLowest-none =
+    word-none (λ p. bit 0 p && not (eqb p (least 64 (bit 0) 64))) 64
+    (λ p _. ap (λ (b : Bool). b && not (eqb p (least 64 (bit 0) 64))) (bit-above 0 0 p (omega arith) zero-le))
+
+-- where the one test passes the other does: its word is no greater, and less where the other passes once more
+module _ (f h : ℕ → Bool) where
+  word-most : (n : ℕ) → ((k : ℕ) → k < n → f k ≡ true → h k ≡ true) → word n f ≤ word n h
+  unfolding word
+  word-most zero s = omega arith
+  word-most (suc n) s = go (f n) (h n) (s n (omega arith)) (word-most n (λ k l. s k (omega arith)))
+    where
+      go : (b c : Bool) → (b ≡ true → c ≡ true) → word n f ≤ word n h → cond b (2 ^ n) 0 + word n f ≤ cond c (2 ^ n) 0 + word n h
+      go true c k m = rw (k refl) (omega arith)
+      go false true k m = omega arith
+      go false false k m = omega arith
+
+  pub word-less : (n p : ℕ) → p < n → f p ≡ false → h p ≡ true → ((k : ℕ) → k < n → f k ≡ true → h k ≡ true) → word n f < word n h
+  unfolding word
+  word-less zero p l a b s = absurd (not-suc-le-zero l)
+  word-less (suc n) p l a b s = go (last-or-below n p l) (λ m. word-less n p m a b (λ k i. s k (omega arith)))
+    where
+      on : (b c : Bool) → (b ≡ true → c ≡ true) → word n f < word n h → cond b (2 ^ n) 0 + word n f < cond c (2 ^ n) 0 + word n h
+      on true c k m = rw (k refl) (omega arith)
+      on false true k m = omega arith
+      on false false k m = omega arith
+
+      go : (p ≡ n) ⊎ (p < n) → (p < n → word n f < word n h) → cond (f n) (2 ^ n) 0 + word n f < cond (h n) (2 ^ n) 0 + word n h
+      go (inl e) ih = rw (ap f (sym e) ∙ a, ap h (sym e) ∙ b) (omega (arith, word-most n (λ k i. s k (omega arith)), pow-pos n))
+      go (inr m) ih = on (f n) (h n) (s n (omega arith)) (ih m)
+
+-- so the word without its lowest bit is less: by this a loop over the set bits ends
+pub withoutLowest-less : (w : ℕ) → w < 2 ^ 64 → 0 < w → withoutLowest w < w
+unfolding withoutLowest
+withoutLowest-less w h l =
+    let s = lowest-set w h l in
+    let e = word-bits w 64 h in
+    let m = word-less (λ p. bit w p && not (eqb p (least 64 (bit w) 64))) (bit w) 64 (least 64 (bit w) 64) (s .0)
+    (and-false-right (bit w (least 64 (bit w) 64)) (ap not (eq-eqb (least 64 (bit w) 64) (least 64 (bit w) 64) refl))) (s .1)
+    (λ k _ t. and-left (bit w k) (not (eqb k (least 64 (bit w) 64))) t) in
+    omega arith
+
 -- the word that a loop over numbered things collects: thing k, where it is ok, sets the bit that is its key
 module _ (ok : ℕ → Bool) (key : ℕ → ℕ) where
   -- some thing below i is ok and has the key p
@@ -288,6 +391,14 @@ module _ (f : ℕ → Bool) where
       stays : f i ≡ false → (q : ℕ) → Dec (q ≡ i) → upTo i q ≡ upTo (suc i) q
       stays e q (yes z) = rw (z, e) (and-false-right (ltb i i) refl ∙ sym (and-false-right (ltb i (suc i)) refl))
       stays e q (no n) = ap (λ (b : Bool). b && f q) (ltb-suc q i n)
+
+  -- where i fails the word stays
+  pub upTo-skip : (i : ℕ) → f i ≡ false → word 64 (upTo (suc i)) ≡ word 64 (upTo i)
+  upTo-skip i e = sym (upTo-next i) ∙ ap (λ (b : Bool). cond b (withBit (word 64 (upTo i)) i) (word 64 (upTo i))) e
+
+  -- up to 64 it has them all
+  pub upTo-all : word 64 (upTo 64) ≡ word 64 f
+  upTo-all = word-same (upTo 64) f 64 (λ p l. ap (λ (b : Bool). b && f p) (lt-ltb p 64 l))
 
   -- the same as a loop meets it: w is collected up to j, b tells whether j passes, v is w with j where b says so
   pub collect : (j w v : ℕ) (b : Bool) → w ≡ word 64 (upTo j) → b ≡ f j → v ≡ cond b (withBit w j) w → v ≡ word 64 (upTo (j + 1))

@@ -73,6 +73,9 @@ pub numbers-at : (w : ℕ) (bytes : List ℕ) (i : ℕ) → i < length bytes / w
 unfolding numbersIn
 numbers-at w bytes i h = getD-list (length bytes / w) (λ k. numberAt w bytes (k * w)) i 0 h
 
+pub numbers-past : (w : ℕ) (bytes : List ℕ) (i : ℕ) → length bytes / w ≤ i → getD (numbersIn w bytes) i 0 ≡ 0
+numbers-past w bytes i h = List·getD-eq-default (numbersIn w bytes) 0 (rw (length-numbers w bytes) h)
+
 -- ## Written one behind another
 
 length-number : (w x : ℕ) → length (numberBytes w x) ≡ w

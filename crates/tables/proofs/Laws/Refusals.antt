@@ -52,6 +52,12 @@ unfolding before
 before-assoc Done b c = refl
 before-assoc (Refused number place) b c = refl
 
+-- the later check matters only where the first is done
+pub before-same : (a : Outcome) {b c : Outcome} → (a ≡ Done → b ≡ c) → before a b ≡ before a c
+unfolding before
+before-same Done h = h refl
+before-same (Refused number place) h = refl
+
 pub before-last : (a : Outcome) → before a Done ≡ a
 unfolding before
 before-last Done = refl

@@ -1,13 +1,13 @@
--- Every refusal's number is at least 1, and number and place are small. A list that is too long is refused by its length, whatever is in it.
+-- Every refusal's number is at least 1, and number and place are small. A list that is too long is refused by its length, whatever is in it, and
+-- one that passes is no longer than its limit.
 use Prim.Native.Nat.{_%_, _/_, _<_, suc, zero, ℕ, _≤_}
 use mathlib.Core.Bool.{Bool, false, not, true, _||_}
 use mathlib.Core.List.{List}
 use mathlib.Core.Path.{refl, _≡_}
 use native.Mathlib.Omega.{arith}
-use lib.Dec.{eqb, lit≤, ltb}
+use lib.Dec.{eqb, lit≤}
 use lib.ListN.{length}
 use borrow.Author.Tests.{eqb-true, lt-ltb, not-false}
-use Rattle.bits.proofs.Laws.Bools.{or-right}
 use Rattle.tables.specs.declared.answers.Outcome.{Outcome}
 use Rattle.tables.specs.declared.answers.Outcome.the-variants.{Done, Refused}
 use Rattle.tables.specs.Refusals.{ascending, before, check2, check3, check4, check5, check6, check7, check8, checkJobs, checkTasks, outside, refuse}
@@ -49,11 +49,7 @@ small-jobs tasks jobs =
     small-before (check5 jobs) _ (search small)
     (λ ok. let few : jobCount jobs ≤ 64 = search fine in small-ascending _ (jobCount jobs) (λ j l. let b : j ≤ 64 = omega arith in search small))
 
--- a list of more than 192 numbers is refused by its length: 16 tasks have 112 numbers, 64 jobs 192
-pub tasks-long : (tasks : List ℕ) → 192 < length tasks → checkTasks tasks ≡ Refused 2 0
-unfolding checkTasks check2 outside taskCount refuse before
-tasks-long tasks h = rw (or-right (not (eqb (length tasks % 7) 0)) (or-right (ltb (length tasks / 7) 1) (lt-ltb 16 (length tasks / 7) (omega arith))))
-
+-- a job list of more than 192 numbers is refused by its length, as 64 jobs have 192
 pub jobs-long : (tasks jobs : List ℕ) → 192 < length jobs → checkJobs tasks jobs ≡ Refused 5 0
 unfolding checkJobs check5 jobCount refuse before
 jobs-long tasks jobs h = rw (go (not (eqb (length jobs % 3) 0)) (λ e. lt-ltb 64 (length jobs / 3) (omega (arith, eqb-true (length jobs % 3) 0 (not-false _ e)))))
@@ -61,3 +57,18 @@ jobs-long tasks jobs h = rw (go (not (eqb (length jobs % 3) 0)) (λ e. lt-ltb 64
     go : (a : Bool) {b : Bool} → (a ≡ false → b ≡ true) → (a || b) ≡ true
     go true h = refl
     go false h = h refl
+
+-- lists that pass have no more numbers than 16 tasks and 64 jobs
+pub tasks-fit : (tasks : List ℕ) → checkTasks tasks ≡ Done → length tasks ≤ 112
+unfolding checkTasks check2 outside taskCount
+tasks-fit tasks ok =
+    let whole = eqb-true (length tasks % 7) 0 (search fine) in
+    let few : length tasks / 7 ≤ 16 = search fine in
+    omega arith
+
+pub jobs-fit : (tasks jobs : List ℕ) → checkJobs tasks jobs ≡ Done → length jobs ≤ 192
+unfolding checkJobs check5 jobCount
+jobs-fit tasks jobs ok =
+    let whole = eqb-true (length jobs % 3) 0 (search fine) in
+    let few : length jobs / 3 ≤ 64 = search fine in
+    omega arith

@@ -1,10 +1,9 @@
 -- The code's tests of a claim's entry are document 01's, and a replay that goes on with legal entries.
 use Prim.Native.Nat.{_+_, _<_, suc, ℕ, _≤_}
-use mathlib.Core.Bool.{_&&_, Bool, false, not, or-false, true, _||_, cond}
+use mathlib.Core.Bool.{_&&_, Bool, false, not, true, _||_, cond}
 use mathlib.Core.List.{List, [], _∷_}
 use mathlib.Core.Logic.{inl, inr, _⊎_}
-use mathlib.Core.Path.{ap, ap₂, refl, sym, _∙_, _≡_}
-use native.Mathlib.Numerals.{add-one}
+use mathlib.Core.Path.{ap, ap₂, sym, _∙_, _≡_}
 use native.Mathlib.Omega.{arith}
 use lib.Dec.{eqb, ltb}
 use lib.ListN.{drop, drop-of-length-le, getD, length}
@@ -12,7 +11,7 @@ use lib.Seq.{drop-cons}
 use borrow.Author.Tests.{eq-eqb, eqb-true, ltb-true, ne-eqb, not-true}
 use Rattle.bits.specs.Below.{bit, greatest, some, word}
 use Rattle.bits.proofs.Laws.Below.{some-found}
-use Rattle.bits.proofs.Laws.Bools.{and-left, and-true, clash, either, never-true, not-of, or-left-false, or-right, or-right-false, same-test}
+use Rattle.bits.proofs.Laws.Bools.{and-left, clash, either, never-true, not-of, same-test}
 use Rattle.bits.proofs.Laws.Word.{bit-above, bit-word, word-none}
 use Rattle.tables.specs.declared.answers.Outcome.the-variants.{Done, Refused}
 use Rattle.zsrm.specs.declared.answers.Claim.{Claim}
@@ -20,7 +19,7 @@ use Rattle.zsrm.specs.declared.answers.Claim.the-variants.{Legal, NotLeg
 use Rattle.zsrm.specs.declared.answers.Replayed.{Replayed}
 use Rattle.zsrm.specs.declared.claims.Walked.{Walked}
 use Rattle.zsrm.specs.declared.record.Record.{Record}
-use Rattle.zsrm.specs.declared.tick.View.{View}
+use Rattle.zsrm.specs.declared.look.View.{View}
 use Rattle.zsrm.specs.Answers.{claimAnswer, ifLegal, replayAnswer}
 use Rattle.zsrm.specs.Given.{isSE, Given}
 use Rattle.zsrm.specs.Code.Claims.{WalkedAs, topOrIdle, instantAt}
@@ -29,14 +28,14 @@ use Rattle.zsrm.specs.Legal.{legalEntry, schedulingInstant, instantBy, l
 use Rattle.zsrm.specs.Record.{blank, consistent, doneAt, fresh, placeAt, standingAt}
 use Rattle.tables.specs.Refusals.{checkLists, checkSchedule}
 use Rattle.zsrm.specs.Run.{recordAt, recordBefore, replay, replayed}
-use Rattle.zsrm.specs.Tick.{advanced, candidate, candidateOrIdle, eligible, readyAt, readyWord, someJob}
+use Rattle.zsrm.specs.Tick.{candidate, candidateOrIdle, eligible, readyAt, readyWord, someJob}
 use Rattle.zsrm.specs.Code.View.{hasPriority, view}
-use Rattle.zsrm.proofs.Laws.Consistent.{advanced-consistent, fresh-consistent}
-use Rattle.zsrm.proofs.Laws.Places.{previous-advanced, previous-fresh, tick-advanced, tick-fresh}
+use Rattle.zsrm.proofs.Laws.Consistent.{fresh-consistent}
+use Rattle.zsrm.proofs.Laws.Places.{previous-fresh, tick-fresh}
 use Rattle.zsrm.proofs.Laws.Ready.{ready-of}
 use Rattle.zsrm.proofs.Laws.Tick.{candidate-eligible, some-candidate}
 use Rattle.zsrm.proofs.Laws.View.{candidate-view, seen}
-use Rattle.zsrm.proofs.Laws.Replay.{legal-goes-on, legal-may, legal-stops, replayed-is, record-more}
+use Rattle.zsrm.proofs.Laws.Replay.{legal-stops, replayed-is}
 use Rattle.tables.proofs.Laws.Accepted.{bounded, lists-few}
 use Rattle.tables.proofs.Laws.Refusals.{unless-done, unless-refused}
 use Rattle.zsrm.specs.declared.answers.Claim.the-variants as claims
@@ -97,26 +96,6 @@ seen-may g ok r v e b p q =
     q ∙ ap (λ (x : View). topOrIdle (g .lists) x e) p
     ∙ top-or-idle g r (lists-few (g .lists) ok) (λ j l. let w = bounded (g .lists) ok j l in omega arith) e
 
--- the three ways in which the code comes to its answer
-module _ (g : Given) (r : Record) (last e : ℕ) where
-  pub legal-kept : candidateOrIdle g r e ≡ true → (eqb (r .tick) 0 || eqb e last) ≡ true → true ≡ legalEntry g r last e
-  unfolding legalEntry
-  legal-kept d h = sym (and-true d (go (eqb (r .tick) 0) (schedulingInstant g r last) h))
-    where
-      go : (a i : Bool) → (a || eqb e last) ≡ true → (a || i || eqb e last) ≡ true
-      go true i h = refl
-      go false i h = or-right i h
-
-  pub legal-instant : (b : Bool) → candidateOrIdle g r e ≡ true → (eqb (r .tick) 0 || eqb e last) ≡ false → b ≡ schedulingInstant g r last → b ≡ legalEntry g r last e
-  unfolding legalEntry
-  legal-instant b d h q =
-      rw (d, or-left-false (eqb (r .tick) 0) (eqb e last) h, or-right-false (eqb (r .tick) 0) (eqb e last) h)
-      (q ∙ sym (or-false (schedulingInstant g r last)))
-
-  pub legal-never : candidateOrIdle g r e ≡ false → false ≡ legalEntry g r last e
-  unfolding legalEntry
-  legal-never d = rw d
-
 -- a replay that has come to tick t, all entries before it being legal; the entry before it is the one that the record keeps
 pub record Replaying (g : Given) (schedule : List ℕ) (r : Record) (t : ℕ) : Type 0 where
   pub legal : legalLength g schedule ≡ t + legalFrom g r (r .previous) (drop t schedule)
@@ -133,21 +112,6 @@ module _ (g : Given) (schedule : List ℕ) where
   -- the entry at t, and those behind it
   at : (t e : ℕ) → t < length schedule → e ≡ getD schedule t 0 → drop t schedule ≡ e ∷ drop (suc t) schedule
   at t e b q = drop-cons schedule t 0 b ∙ ap (λ (x : ℕ). x ∷ drop (suc t) schedule) (sym q)
-
-  pub replaying-more : (r next : Record) (t e : ℕ) → Replaying g schedule r t → t < length schedule → length schedule ≤ 16384 → e ≡ getD schedule t 0
-      → legalEntry g r (r .previous) e ≡ true → next ≡ advanced g r e → Replaying g schedule next (t + 1)
-  replaying-more r next t e w b limit q h n =
-      let goes : legalFrom g r (r .previous) (drop t schedule) ≡ suc (legalFrom g (advanced g r e) e (drop (suc t) schedule)) =
-      ap (legalFrom g r (r .previous)) (at t e b q) ∙ legal-goes-on g r (r .previous) e (drop (suc t) schedule) h in
-      let rest : legalFrom g next (next .previous) (drop (suc t) schedule) ≡ legalFrom g (advanced g r e) e (drop (suc t) schedule) =
-      ap (λ (x : Record). legalFrom g x (x .previous) (drop (suc t) schedule)) n
-      ∙ ap (λ (p : ℕ). legalFrom g (advanced g r e) p (drop (suc t) schedule)) (previous-advanced g r e) in
-      record {
-        legal = rw add-one (omega (arith, w .legal, goes, rest));
-        here = rw add-one (n ∙ ap₂ (advanced g) (w .here) q ∙ sym (record-more g schedule t 0 b));
-        sound = rw n (advanced-consistent g r e (omega (arith, w .time)) (legal-may g r (r .previous) e h) (w .sound));
-        time = rw (add-one, n) (tick-advanced g r e ∙ ap suc (w .time));
-      }
 
   -- it stops at an entry that is not legal, or at the end
   pub replaying-stops : (r : Record) (t e : ℕ) → Replaying g schedule r t → t < length schedule → e ≡ getD schedule t 0 → legalEntry g r (r .previous) e ≡ false

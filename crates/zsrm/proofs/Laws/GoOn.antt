@@ -29,12 +29,12 @@ use Rattle.zsrm.specs.Tick.{advanced, choice}
 use Rattle.zsrm.proofs.Laws.Answers.{LegalClaim, run-given, whole-legal}
 use Rattle.zsrm.proofs.Laws.Choice.{choice-may}
 use Rattle.zsrm.proofs.Laws.Consistent.{consistent-tick, fresh-consistent, replayed-consistent}
-use Rattle.zsrm.proofs.Laws.Going.{Going, final-more, final-none, going-more, going-none, steps-entry}
+use Rattle.zsrm.proofs.Laws.Going.{Going, entries-parts, final-more, final-none, going-more, going-none, steps-entry}
 use Rattle.zsrm.proofs.Laws.Places.{tick-fresh}
 use Rattle.tables.proofs.Laws.Accepted.{lists-few, accepted, Accepted}
 use Rattle.tables.proofs.Laws.Refusals.{before-first, before-last, before-second, numbered-before, numbered-refuse, refuse-fine, unless-done, unless-refused, lists-numbered, Other}
-use Rattle.zsrm.proofs.Laws.Replay.{tick-replay, replay-append}
-use Rattle.zsrm.proofs.Laws.Run.{length-entries, resumed-legal, run-by-parts, stay-resumes}
+use Rattle.zsrm.proofs.Laws.Replay.{tick-replay}
+use Rattle.zsrm.proofs.Laws.Run.{length-entries, resumed-legal, stay-resumes}
 use Rattle.zsrm.proofs.Laws.Ties.{runs-agree}
 use Rattle.tables.specs.Said.{outcomeSaid, done}
 use Rattle.tables.proofs.Laws.Said.{said-done}
@@ -162,16 +162,6 @@ module _ (g : Given) (tie : Tie) (r : Record) where
       rw add-one at (going-more g (choice g tie) r x (finalBy g (choice g tie) r (n + 1)) n w (omega arith) (choice-may g tie x) (final-more g (choice g tie) r n))
 
   -- a ticks, and then b
-  pub final-by-parts : (a b : ℕ) → finalBy g (choice g tie) r (a + b) ≡ finalBy g (choice g tie) (finalBy g (choice g tie) r a) b
-  unfolding finalBy
-  final-by-parts a b =
-      let es = entriesBy g (choice g tie) r a in
-      ap (replay g r) (run-by-parts g (choice g tie) a b r) ∙ replay-append g r es (entriesBy g (choice g tie) (replay g r es) b)
-
-  pub entries-by-parts : (a b : ℕ) → entriesBy g (choice g tie) r (a + b) ≡ entriesBy g (choice g tie) r a ++ entriesBy g (choice g tie) (finalBy g (choice g tie) r a) b
-  unfolding finalBy
-  entries-by-parts a b = run-by-parts g (choice g tie) a b r
-
   module _ (a b : ℕ) (first second lent : List ℕ) (one : length first ≡ a) (two : length second ≡ b) where
     -- the whole is accepted where its parts are, and they where it is
     pub parts-accepted : checkGoOn g r (a + b) (length lent) ≡ Done
@@ -256,7 +246,7 @@ entries-alike g ok h n b r q =
     let part = runs-agree g ok h (omega arith) in
     cancel es (entriesBy g (choice g Stay) r n) (entriesBy g (choice g Lowest) r n)
     (ap₂ (λ (l : List ℕ) (s : Record). l ++ entriesBy g (choice g Stay) s n) (sym (part .0)) (q ∙ sym (part .1))
-    ∙ sym (entries-by-parts g Stay f h n) ∙ runs-agree g ok (h + n) b .0 ∙ entries-by-parts g Lowest f h n
+    ∙ sym (entries-parts g (choice g Stay) f h n) ∙ runs-agree g ok (h + n) b .0 ∙ entries-parts g (choice g Lowest) f h n
     ∙ ap (λ (s : Record). es ++ entriesBy g (choice g Lowest) s n) (sym q))
 
 module _ (g : Given) (tie : Tie) (horizon : ℕ) (lent : List ℕ) (ok : checkSchedule (g .lists) horizon (length lent) ≡ Done) where

@@ -1,12 +1,9 @@
 -- A run underway: what a loop over ticks has done by the tick it has come to, from any consistent record.
 use Prim.Native.Nat.{_+_, _<_, ℕ}
 use mathlib.Core.Bool.{true}
-use mathlib.Core.List.{_++_, List, [], _∷_}
-use mathlib.Core.Path.{ap, ap₂, refl, sym, _∙_, _≡_}
-use native.Mathlib.Numerals.{add-one}
+use mathlib.Core.List.{_++_, [], _∷_}
+use mathlib.Core.Path.{ap, refl, sym, _∙_, _≡_}
 use native.Mathlib.Omega.{arith}
-use lib.ListN.{length, set, take}
-use lib.Seq.{take-suc-set}
 use Rattle.zsrm.specs.declared.answers.Stepped.{Stepped}
 use Rattle.zsrm.specs.declared.record.Record.{Record}
 use Rattle.zsrm.specs.declared.tie.Tie.{Tie}
@@ -21,6 +18,17 @@ use Rattle.zsrm.proofs.Laws.Run.{run-by-parts}
 use Rattle.zsrm.proofs.Laws.Replay.{replay-append}
 
 module _ (g : Given) (pick : Record → ℕ) where
+  -- a ticks, and then b
+  pub entries-parts : (r : Record) (a b : ℕ) → entriesBy g pick r (a + b) ≡ entriesBy g pick r a ++ entriesBy g pick (finalBy g pick r a) b
+  unfolding finalBy
+  entries-parts r a b = run-by-parts g pick a b r
+
+  pub final-parts : (r : Record) (a b : ℕ) → finalBy g pick r (a + b) ≡ finalBy g pick (finalBy g pick r a) b
+  unfolding finalBy
+  final-parts r a b =
+      let es = entriesBy g pick r a in
+      ap (replay g r) (run-by-parts g pick a b r) ∙ replay-append g r es (entriesBy g pick (replay g r es) b)
+
   -- one tick more
   pub entries-more : (r : Record) (n : ℕ) → entriesBy g pick r (n + 1) ≡ entriesBy g pick r n ++ (pick (finalBy g pick r n) ∷ [])
   unfolding finalBy entriesBy
@@ -57,12 +65,6 @@ module _ (g : Given) (pick : Record → ℕ) where
         sound = rw e (advanced-consistent g r (pick r) (omega (arith, w .time)) may (w .sound));
         time = rw e (tick-advanced g r (pick r) ∙ omega (arith, w .time));
       }
-
-  -- the entries that a loop has written into a list
-  pub going-writes : (start r : Record) (l : List ℕ) (n e : ℕ) → Going start r n → take n l ≡ entriesBy g pick start n → n < length l → e ≡ pick r
-      → take (n + 1) (set l n e) ≡ entriesBy g pick start (n + 1)
-  going-writes start r l n e w p b q =
-      rw add-one (take-suc-set l n e b) ∙ ap₂ (λ (x : List ℕ) (c : ℕ). x ++ (c ∷ [])) p (q ∙ ap pick (w .is)) ∙ sym (entries-more start n)
 
 -- a step's entry and record
 pub steps-entry : (g : Given) (tie : Tie) (r : Record) (s : Stepped) → s ≡ stepped g tie r → (s .entry ≡ choice g tie r) × (s .«record» ≡ advanced g r (choice g tie r))

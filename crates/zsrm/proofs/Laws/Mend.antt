@@ -8,11 +8,11 @@ use mathlib.Core.Logic.{_↔_, ⊎-elim}
 use mathlib.Core.Path.{ap, ap₂, refl, subst, sym, _∙_, _≡_}
 use native.Mathlib.Omega.{arith}
 use lib.Dec.{eqb}
-use lib.ListN.{drop, getD, length, length-append, length-drop, List·getD-append, take}
-use lib.Seq.{getD-append-add, getD-drop, getD-take, length-take-le, take-all, take-append-add, take-at}
+use lib.ListN.{drop, getD, length, length-append, List·getD-append, take, take-append-drop}
+use lib.Seq.{getD-append-add, getD-take, length-take-le, take-all, take-append-add, take-at}
 use borrow.Author.Tests.{eq-eqb, eqb-true, ne-eqb, not-false}
 use Rattle.bits.specs.Below.{count}
-use Rattle.bits.proofs.Laws.Below.{count-none, count-parts, count-same, count-some}
+use Rattle.bits.proofs.Laws.Below.{count-most, count-none, count-parts, count-same, count-some}
 use Rattle.bits.proofs.Laws.Bools.{by-cond, either, apart}
 use Rattle.tables.specs.declared.answers.Outcome.the-variants.{Done, Refused}
 use Rattle.tables.specs.Refusals.{before, check10, refuse, checkSchedule}
@@ -44,21 +44,32 @@ use Rattle.zsrm.proofs.Readings.{claim-legal, claim-not-legal, mend-els
 use Rattle.zsrm.specs.declared.answers.Claim.the-variants as claims
 use Rattle.zsrm.specs.declared.answers.Mended.the-variants as mends
 
--- behind a beginning that is the claim's, only the rest differs
-pub differing-rest : (claimed es : List ℕ) (k : ℕ) → k ≤ length claimed → differing claimed (take k claimed ++ es) ≡ differing (drop k claimed) es
+-- how many entries differ: in lists that are joined in one place, in a list beside itself, and at most
+pub differing-append : (a b c d : List ℕ) → length a ≡ length c → differing (a ++ b) (c ++ d) ≡ differing a c + differing b d
 unfolding differing differs
-differing-rest claimed es k b =
-    let front : length (take k claimed) ≡ k = length-take-le k claimed b in
-    let made = take k claimed ++ es in
-    let all : length claimed ≡ k + length (drop k claimed) = omega (arith, length-drop k claimed) in
-    let first : count k (differs claimed made) ≡ 0 =
-    count-none (differs claimed made) k (λ i l.
-    rw (eq-eqb (getD claimed i idle) (getD made i idle) (sym (List·getD-append (take k claimed) es idle i (omega arith) ∙ getD-take k claimed i idle l)))) in
-    let rest : count (length (drop k claimed)) (λ i. differs claimed made (k + i)) ≡ count (length (drop k claimed)) (differs (drop k claimed) es) =
-    count-same (λ i. differs claimed made (k + i)) (differs (drop k claimed) es) (length (drop k claimed)) (λ i l.
-    ap₂ (λ (x y : ℕ). not (eqb x y)) (sym (getD-drop k claimed i idle))
-    (ap (λ (n : ℕ). getD made (n + i) idle) (sym front) ∙ getD-append-add (take k claimed) es i idle)) in
-    ap (λ (n : ℕ). count n (differs claimed made)) all ∙ count-parts (differs claimed made) k (length (drop k claimed)) ∙ omega (arith, first, rest)
+differing-append a b c d same =
+    let both = differs (a ++ b) (c ++ d) in
+    let front : count (length a) both ≡ count (length a) (differs a c) =
+    count-same both (differs a c) (length a) (λ i l.
+    ap₂ (λ (x y : ℕ). not (eqb x y)) (List·getD-append a b idle i l) (List·getD-append c d idle i (omega (arith, l, same)))) in
+    let back : count (length b) (λ i. both (length a + i)) ≡ count (length b) (differs b d) =
+    count-same (λ i. both (length a + i)) (differs b d) (length b) (λ i l.
+    ap₂ (λ (x y : ℕ). not (eqb x y)) (getD-append-add a b i idle) (ap (λ (n : ℕ). getD (c ++ d) (n + i) idle) same ∙ getD-append-add c d i idle)) in
+    ap (λ (n : ℕ). count n both) (length-append a b) ∙ count-parts both (length a) (length b) ∙ omega (arith, front, back)
+
+differing-self : (l : List ℕ) → differing l l ≡ 0
+unfolding differing differs
+differing-self l = count-none (differs l l) (length l) (λ i h. rw (eq-eqb (getD l i idle) (getD l i idle) refl))
+
+pub differing-most : (a b : List ℕ) → differing a b ≤ length a
+unfolding differing
+differing-most a b = count-most (differs a b) (length a)
+
+-- behind a beginning that is the claim's, only the rest differs
+pub differing-rest : (claimed es : List ℕ) (k : ℕ) → differing claimed (take k claimed ++ es) ≡ differing (drop k claimed) es
+differing-rest claimed es k =
+    ap (λ (l : List ℕ). differing l (take k claimed ++ es)) (sym (take-append-drop k claimed)) ∙ differing-append (take k claimed) (drop k claimed) (take k claimed) es refl
+    ∙ omega (arith, differing-self (take k claimed))
 
 module _ (g : Given) where
   -- after an entry, and at the fresh record

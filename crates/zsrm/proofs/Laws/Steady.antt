@@ -1,11 +1,12 @@
 -- Where a tick is no scheduling instant, the eligible jobs, and so the candidates, are those of the tick before.
 -- So an entry that was legal stays a candidate, the lowest candidate is the same, and our run is a legal claim.
 use Prim.Native.Nat.{_<_, suc, ℕ, _≤_}
-use mathlib.Core.Bool.{_&&_, Bool, false, not, true}
+use mathlib.Core.Bool.{_&&_, _||_, Bool, false, not, true}
 use mathlib.Core.Path.{ap, ap₂, refl, _≡_}
 use native.Mathlib.Omega.{arith}
-use borrow.Author.Tests.{eq-eqb}
-use Rattle.bits.proofs.Laws.Below.{some-false, some-same}
+use lib.Dec.{eqb, ltb}
+use borrow.Author.Tests.{eq-eqb, ltb-true}
+use Rattle.bits.proofs.Laws.Below.{least-same, some-false, some-same}
 use Rattle.bits.proofs.Laws.Bools.{clash, failed, same-test}
 use Rattle.bits.proofs.Laws.Most.{most-there}
 use Rattle.zsrm.specs.declared.record.Record.{Record}
@@ -14,11 +15,34 @@ use Rattle.zsrm.specs.declared.record.Standing.the-variants.{Ended, Fini
 use Rattle.zsrm.specs.Legal.{isFinishedAt, schedulingInstant, instantBy}
 use Rattle.zsrm.specs.Record.{consistent, doneAt, standingAt}
 use Rattle.zsrm.specs.Given.{Given}
-use Rattle.tables.specs.Tables.{arrival, jobCount, jobCriticality, zeroSlackInstant}
-use Rattle.zsrm.specs.Tick.{advanced, alive, candidate, eligible, ends, higherPriority, pastZeroSlack, someJob, standingAfter, isUnfinished}
+use Rattle.tables.specs.Tables.{arrival, idle, jobCount, jobCriticality, zeroSlackInstant}
+use Rattle.zsrm.specs.Tick.{advanced, alive, candidate, candidateOrIdle, eligible, ends, higherPriority, lowest, pastZeroSlack, someJob, standingAfter, isUnfinished}
 use Rattle.zsrm.proofs.Laws.Consistent.{Sound, sound-at}
 use Rattle.zsrm.proofs.Laws.Places.{standing-advanced, opening-cases, standing-alive}
 use Rattle.zsrm.proofs.Laws.Tick.{eligible-unended, top-eligible, goes-on-cases, eligible-exactly, past-exactly}
+
+-- records with the same eligible jobs have the same candidates, the same lowest one, and the same entries may run
+module _ (g : Given) (r s : Record) (same : (j : ℕ) → j < jobCount (g .lists .jobs) → eligible g s j ≡ eligible g r j) where
+  pub candidate-alike : (j : ℕ) → j < jobCount (g .lists .jobs) → candidate g s j ≡ candidate g r j
+  unfolding candidate someJob
+  candidate-alike j l =
+      ap₂ (λ (a b : Bool). a && not b) (same j l)
+      (some-same (λ i. eligible g s i && higherPriority g i j) (λ i. eligible g r i && higherPriority g i j) (jobCount (g .lists .jobs))
+      (λ i m. ap (λ (b : Bool). b && higherPriority g i j) (same i m)))
+
+  pub lowest-alike : lowest g s ≡ lowest g r
+  unfolding lowest
+  lowest-alike = least-same (candidate g s) (candidate g r) (jobCount (g .lists .jobs)) idle candidate-alike
+
+  pub may-alike : (e : ℕ) → candidateOrIdle g s e ≡ candidateOrIdle g r e
+  unfolding candidateOrIdle someJob
+  may-alike e =
+      ap₂ (λ (a b : Bool). a || (eqb e idle && not b)) (named (ltb e (jobCount (g .lists .jobs))) refl)
+      (some-same (candidate g s) (candidate g r) (jobCount (g .lists .jobs)) candidate-alike)
+    where
+      named : (b : Bool) → ltb e (jobCount (g .lists .jobs)) ≡ b → (b && candidate g s e) ≡ (b && candidate g r e)
+      named true h = candidate-alike e (ltb-true e (jobCount (g .lists .jobs)) h)
+      named false h = refl
 
 module _ (g : Given) (r : Record) (e p : ℕ) (few : jobCount (g .lists .jobs) ≤ 64) (sound : consistent g r ≡ true) (still : schedulingInstant g (advanced g r e) p ≡ false) where
   -- the tick after brings nothing for the job j
@@ -86,8 +110,4 @@ module _ (g : Given) (r : Record) (e p : ℕ) (few : jobCount (g .lists .jobs) �
   eligible-same j l = same-test (eligible g (advanced g r e) j) (eligible g r j) (eligible-was j l) (eligible-stays j l)
 
   pub candidate-same : (j : ℕ) → j < jobCount (g .lists .jobs) → candidate g (advanced g r e) j ≡ candidate g r j
-  unfolding candidate someJob
-  candidate-same j l =
-      ap₂ (λ (a b : Bool). a && not b) (eligible-same j l)
-      (some-same (λ i. eligible g (advanced g r e) i && higherPriority g i j) (λ i. eligible g r i && higherPriority g i j) (jobCount (g .lists .jobs))
-      (λ i m. ap (λ (b : Bool). b && higherPriority g i j) (eligible-same i m)))
+  candidate-same = candidate-alike g r (advanced g r e) eligible-same

@@ -16,7 +16,7 @@ use Rattle.bits.proofs.Laws.Word.{bit-above, bit-word, highest-word, upTo, with
 use Rattle.bits.proofs.Laws.Most.{greatest-key}
 use Rattle.zsrm.specs.declared.record.Record.{Record}
 use Rattle.zsrm.specs.declared.next.Ticked.{Ticked}
-use Rattle.zsrm.specs.declared.tick.View.{View}
+use Rattle.zsrm.specs.declared.look.View.{View}
 use Rattle.zsrm.specs.declared.tie.Tie.{Tie}
 use Rattle.zsrm.specs.Given.{isSE, Given}
 use Rattle.tables.specs.Tables.{idle, jobCount, jobCriticality, jobNominal, jobPriority, zeroSlackInstant, Lists}
@@ -24,7 +24,7 @@ use Rattle.zsrm.specs.Record.{doneAt}
 use Rattle.zsrm.specs.Tick.{alive, candidate, choice, doneAfter, eligible, endedWord, ends, isStay, jobWord, keeps, lowest}
 use Rattle.zsrm.specs.Tick.{moreCritical, over, pastZeroSlack, readyAt, readyWord, someJob, suspended, waits, advanced, candidateOrIdle, readyCount}
 use Rattle.zsrm.specs.Code.View.{lessCriticalWord, chosen, hasPriority, isPast, keepsBy, lessCriticalIn, lowestOf}
-use Rattle.zsrm.specs.Code.View.{overrunWord, overruns, pastWord, priorityWord, tickedBy, view, waitingWord, greatestCriticality}
+use Rattle.zsrm.specs.Code.View.{overrunWord, overruns, pastWord, priorityWord, ticked, tickedBy, view, waitingWord, greatestCriticality}
 use Rattle.zsrm.proofs.Laws.Ready.{candidate-top}
 use Rattle.zsrm.proofs.Laws.Tick.{ends-by, se-reads, waiting}
 use Rattle.tables.specs.declared.answers.Outcome.the-variants.{Done}
@@ -34,31 +34,11 @@ use Rattle.tables.specs.Refusals.{checkLists}
 use Rattle.zsrm.proofs.Laws.Choice.{choice-may}
 use Rattle.tables.proofs.Laws.Accepted.{bounded, lists-few}
 
--- what the tick does with the entry e, the jobs as words
-abbrev pub ticked : Given → Record → ℕ → Ticked
-ticked g r e =
-    record { entry = e; suspended = jobWord (g .lists .jobs) (suspended g r); waiting = jobWord (g .lists .jobs) (waits g r e); ended = endedWord g r e }
-
--- a loop that has come to the last job has collected them all
-pub collected : (jobs : List ℕ) (f : ℕ → Bool) (n j w : ℕ) → n ≡ jobCount jobs → j ≤ n → n ≤ j → w ≡ word 64 (upTo f j) → w ≡ jobWord jobs f
-unfolding jobWord
-collected jobs f n j w q a b p = p ∙ ap (λ (x : ℕ). word 64 (upTo f x)) (let e : j ≡ n = omega arith in e ∙ q)
-
 -- the view, word by word
 pub view-made : (l : Lists) (r : Record) (a p m s e y : ℕ) → a ≡ jobWord (l .jobs) (alive r) → p ≡ pastWord l a (r .tick) → m ≡ greatestCriticality l p → s ≡ lessCriticalWord l a m
     → e ≡ without a s → y ≡ priorityWord l e → _≡_ {A = View} (record { alive = a; past = p; suspended = s; eligible = e; ready = y }) (view l r)
 unfolding view
 view-made l r a p m s e y qa qp qm qs qe qy = rw (qy, qe, qs, qm, qp, qa)
-
--- our choice, as the code comes to it: the previous entry is kept, or the lowest is looked for
-module _ (l : Lists) (tie : Tie) (v : View) (previous top : ℕ) (kept : Bool) (p : top ≡ greatest 64 (bit (v .ready)) 64) (q : kept ≡ keepsBy l tie (v .eligible) top previous) where
-  pub chosen-kept : kept ≡ true → previous ≡ chosen l tie v previous
-  unfolding chosen
-  chosen-kept t = rw (← p, ← q, t)
-
-  pub chosen-else : kept ≡ false → (x : ℕ) → x ≡ lowestOf l (v .eligible) top → x ≡ chosen l tie v previous
-  unfolding chosen
-  chosen-else t x h = rw (← p, ← q, t) h
 
 -- a set of jobs and its word
 pub jobWord-same : (jobs : List ℕ) (f h : ℕ → Bool) → ((j : ℕ) → j < jobCount jobs → f j ≡ h j) → jobWord jobs f ≡ jobWord jobs h

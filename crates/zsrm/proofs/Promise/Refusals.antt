@@ -35,7 +35,6 @@ use Rattle.zsrm.proofs.Laws.Mend.{mend-not-refused, refused-is}
 use Rattle.zsrm.proofs.Laws.Witnesses.{part-empty}
 use Rattle.tables.specs.declared.answers.Outcome.{Outcome}
 use Rattle.zsrm.proofs.Laws.Called.{decided, stopped}
-use Rattle.zsrm.specs.Code.Called.{called}
 use borrow.Author.Tests.{ne-eqb}
 use Rattle.zsrm.specs.declared.answers.Claim.the-variants as claims
 use Rattle.zsrm.specs.declared.answers.Mended.the-variants as mends
@@ -196,9 +195,8 @@ refused-step g tie r number place says =
 module _ (mode : ℕ) (tasks jobs : List ℕ) (horizon : ℕ) (bytes : List ℕ) where
   pub c-refused : (number place : ℕ) → outcomeSaid (checkBytes mode tasks jobs horizon (length bytes)) ≡ refused number place
       → (runResult mode tasks jobs horizon bytes ≡ number + 256 * place) × (claimResult mode tasks jobs horizon bytes ≡ number + 256 * place)
-  unfolding called
   c-refused number place says =
-      let s = stopped mode tasks jobs horizon bytes _ number place refl (said-refused (checkBytes mode tasks jobs horizon (length bytes)) number place .0 says) in
+      let s = stopped mode tasks jobs horizon bytes number place (said-refused (checkBytes mode tasks jobs horizon (length bytes)) number place .0 says) in
       (sym (s .run), sym (s .claimed))
 
   -- Where a run from C is refused, the schedule's bytes stay as they were.

@@ -55,10 +55,10 @@ use Rattle.zsrm.specs.declared.answers.Claim.{Claim}
 use Rattle.tables.specs.declared.answers.Outcome.{Outcome}
 use Rattle.zsrm.proofs.Laws.Called.{bytes-checked, c-claim-exactly, run-passed}
 use Rattle.zsrm.proofs.Laws.Choice.{choice-kept}
-use Rattle.zsrm.proofs.Laws.GoOn.{claim-accepted, claim-goes-on, entries-by-parts, final-by-parts, fresh-record, go-on-accepted, go-on-given, go-on-said, goes-on, going, going-by}
+use Rattle.zsrm.proofs.Laws.GoOn.{claim-accepted, claim-goes-on, fresh-record, go-on-accepted, go-on-given, go-on-said, goes-on, going, going-by}
 use Rattle.zsrm.proofs.Laws.GoOn.{going-from, never-nine, one-checked, one-record, parts-accepted, ran-consistent, ran-step, run-alike, run-checked, run-goes-on, whole-accepted}
 use borrow.Author.Tests.{eq-eqb, lt-ltb}
-use Rattle.zsrm.proofs.Laws.Going.{final-none, steps-entry}
+use Rattle.zsrm.proofs.Laws.Going.{entries-parts, final-none, final-parts, steps-entry}
 use Rattle.zsrm.proofs.Laws.Run.{getD-entries, length-run, our-run-legal}
 use Rattle.zsrm.proofs.Laws.View.{none-ended}
 use Rattle.zsrm.specs.declared.answers.Claim.the-variants as claims
@@ -216,8 +216,8 @@ module _ (g : Given) (tie : Tie) (r : Record) where
         let x = go-on-given g tie r a first (w .0) in
         let y = go-on-given g tie (goOnAnswer g tie r a first .«record») b second (w .1) in
         let z = go-on-given g tie r (a + b) lent all in (
-          z .0 ∙ final-by-parts g tie r a b ∙ sym (y .0 ∙ ap (λ (s : Record). finalBy g (choice g tie) s b) (x .0)),
-          z .1 ∙ entries-by-parts g tie r a b
+          z .0 ∙ final-parts g (choice g tie) r a b ∙ sym (y .0 ∙ ap (λ (s : Record). finalBy g (choice g tie) s b) (x .0)),
+          z .1 ∙ entries-parts g (choice g tie) r a b
               ∙ ap₂ (λ (l m : List ℕ). l ++ m) (sym (x .1)) (sym (y .1 ∙ ap (λ (s : Record). entriesBy g (choice g tie) s b) (x .0))),
         )
 

@@ -11,7 +11,7 @@ use Rattle.zsrm.specs.declared.record.Standing.{Standing}
 use Rattle.zsrm.specs.declared.record.Standing.the-variants.{NotArrived, Unfinished, Finished, Ended}
 use Rattle.zsrm.specs.declared.record.Place.{Place}
 use Rattle.zsrm.specs.declared.record.Record.{Record}
-use Rattle.zsrm.specs.declared.tick.View.{View}
+use Rattle.zsrm.specs.declared.look.View.{View}
 use Rattle.zsrm.specs.declared.claims.Walked.{Walked}
 use Rattle.zsrm.specs.Given.{Given}
 use Rattle.tables.specs.Tables.{idle, jobCount, arrival, jobNominal, zeroSlackInstant, Lists}

@@ -1,5 +1,6 @@
--- How the code makes the places of the next record, from one place and what the tick did to its job. No contract that callers see cites
--- it; the laws in proofs/Laws/Next join it to "The record" and "One tick".
+-- How the code makes the places of a later record, from one place and what the first tick did to its job: k ticks on, where nothing
+-- happens between them, and by one tick always. No contract that callers see cites it; the laws in proofs/Laws/Next and Leap join it to
+-- "The record" and "One tick".
 use Prim.Native.Nat.{ℕ, _+_}
 use mathlib.Core.Bool.{Bool, true, _&&_, cond}
 use mathlib.Core.List.{List}
@@ -17,30 +18,31 @@ use Rattle.zsrm.specs.Record.{placeAt}
 abbrev pub openingOf : Bool → ℕ → ℕ → ℕ → Standing
 openingOf isJob a c t = cond (isJob && leb a t) (cond (eqb c 0) (Finished a) Unfinished) NotArrived
 
--- after tick t, a job that was alive in it
-abbrev pub workedOn : ℕ → Bool → Bool → Standing
-workedOn t finishes ended = cond finishes (Finished (t + 1)) (cond ended (Ended t) Unfinished)
+-- k ticks after t, a job that was alive in tick t: whoever is ended was so in tick t
+abbrev pub workedOn : ℕ → ℕ → Bool → Bool → Standing
+workedOn t k finishes ended = cond finishes (Finished (t + k)) (cond ended (Ended t) Unfinished)
 
--- after tick t, any job, done being what it has done by then
-abbrev pub nextStanding : ℕ → Bool → Bool → ℕ → ℕ → ℕ → Standing → Standing
-nextStanding t ran ended a c done NotArrived = openingOf true a c (t + 1)
-nextStanding t ran ended a c done Unfinished = workedOn t (ran && eqb done c) ended
-nextStanding t ran ended a c done (Finished f) = Finished f
-nextStanding t ran ended a c done (Ended e) = Ended e
+-- k ticks after t, any job, done being what it has done by then
+abbrev pub nextStanding : ℕ → ℕ → Bool → Bool → ℕ → ℕ → ℕ → Standing → Standing
+nextStanding t k ran ended a c done NotArrived = openingOf true a c (t + k)
+nextStanding t k ran ended a c done Unfinished = workedOn t k (ran && eqb done c) ended
+nextStanding t k ran ended a c done (Finished f) = Finished f
+nextStanding t k ran ended a c done (Ended e) = Ended e
 
--- after tick t, the place p of job j, which arrives at a and has c to do, the tick having done w
-abbrev pub nextPlace : ℕ → Ticked → ℕ → ℕ → ℕ → Place → Place
-nextPlace t w j a c p =
+-- k ticks after t, the place p of job j, which arrives at a and has c to do, tick t having done w: a job that is ended is suspended in
+-- tick t, and no longer
+abbrev pub nextPlace : ℕ → ℕ → Ticked → ℕ → ℕ → ℕ → Place → Place
+nextPlace t k w j a c p =
     record {
-      done = p .done + cond (eqb (w .entry) j) 1 0;
-      suspended = p .suspended + cond (bit (w .suspended) j) 1 0;
-      waited = p .waited + cond (bit (w .waiting) j) 1 0;
-      standing = nextStanding t (eqb (w .entry) j) (bit (w .ended) j) a c (p .done + cond (eqb (w .entry) j) 1 0) (p .standing);
+      done = p .done + cond (eqb (w .entry) j) k 0;
+      suspended = p .suspended + cond (bit (w .suspended) j) (cond (bit (w .ended) j) 1 k) 0;
+      waited = p .waited + cond (bit (w .waiting) j) k 0;
+      standing = nextStanding t k (eqb (w .entry) j) (bit (w .ended) j) a c (p .done + cond (eqb (w .entry) j) k 0) (p .standing);
     }
 
--- the place of job j after the record's tick; places beyond the jobs stay
-unfoldable pub nextAt : List ℕ → Record → Ticked → ℕ → Place
-nextAt jobs r w j = cond (ltb j (jobCount jobs)) (nextPlace (r .tick) w j (arrival jobs j) (execution jobs j) (placeAt r j)) (placeAt r j)
+-- the place of job j k ticks after the record's; places beyond the jobs stay
+unfoldable pub nextAt : List ℕ → Record → ℕ → Ticked → ℕ → Place
+nextAt jobs r k w j = cond (ltb j (jobCount jobs)) (nextPlace (r .tick) k w j (arrival jobs j) (execution jobs j) (placeAt r j)) (placeAt r j)
 
-unfoldable pub nextRecord : List ℕ → Record → Ticked → Record
-nextRecord jobs r w = record { tick = r .tick + 1; previous = w .entry; places = listFrom 0 64 (nextAt jobs r w) }
+unfoldable pub nextRecord : List ℕ → Record → ℕ → Ticked → Record
+nextRecord jobs r k w = record { tick = r .tick + k; previous = w .entry; places = listFrom 0 64 (nextAt jobs r k w) }

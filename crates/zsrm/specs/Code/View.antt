@@ -8,11 +8,12 @@ use Rattle.bits.specs.Below.{least, greatest, word, bit, greatestKey}
 use Rattle.bits.specs.Word.{without, withBit}
 use Rattle.zsrm.specs.declared.record.Record.{Record}
 use Rattle.zsrm.specs.declared.next.Ticked.{Ticked}
-use Rattle.zsrm.specs.declared.tick.View.{View}
+use Rattle.zsrm.specs.declared.look.View.{View}
 use Rattle.zsrm.specs.declared.tie.Tie.{Tie}
 use Rattle.tables.specs.Tables.{idle, jobCount, jobCriticality, jobPriority, jobNominal, zeroSlackInstant, Lists}
 use Rattle.zsrm.specs.Record.{doneAt}
-use Rattle.zsrm.specs.Tick.{alive, isStay, someJob, jobWord}
+use Rattle.zsrm.specs.Given.{Given}
+use Rattle.zsrm.specs.Tick.{alive, endedWord, isStay, someJob, suspended, jobWord, waits}
 
 module _ (l : Lists) where
   -- the greatest criticality among the jobs of a set, 0 where it has none: nothing is less than 0, so nobody is then below it
@@ -75,3 +76,8 @@ waitingWord jobs among e = cond (ltb e (jobCount jobs)) (without among (withBit 
 -- what the tick does that is seen so, in which e runs and the jobs of a word are ended
 unfoldable pub tickedBy : List ℕ → View → ℕ → ℕ → Ticked
 tickedBy jobs v e ended = record { entry = e; suspended = v .suspended; waiting = waitingWord jobs (v .eligible) e; ended = ended }
+
+-- what the tick does with the entry e, its jobs as words
+abbrev pub ticked : Given → Record → ℕ → Ticked
+ticked g r e =
+    record { entry = e; suspended = jobWord (g .lists .jobs) (suspended g r); waiting = jobWord (g .lists .jobs) (waits g r e); ended = endedWord g r e }

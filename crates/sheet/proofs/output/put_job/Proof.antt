@@ -9,7 +9,7 @@ returns : tie.Need-returns
 returns c =
     let z = c .before .before in
     let y = z .before .before .before .before in
-    let x = y .before .before .before .before .before in
+    let x = y .before .before .before .before .before .before .before in
     let w = x .before .before .before .before in
     let v = w .before .before .before .before .before in
     rw (← job-text _ _ _)
@@ -18,5 +18,7 @@ returns c =
 pub put-job-spec : {M : Type 1} → statement M
 put-job-spec =
     tie.close
-    (tie.spec (λ c. search needs) (λ c κs. search needs) (λ c. search needs) (λ c κs. search needs) (λ c κs. search needs) (λ c. search needs) (λ c κs. search needs)
-    (λ c κs. search needs) (λ c. search needs) returns)
+    (tie.spec (λ c. search needs) (λ c κs. search needs) (λ c. search needs) (λ c κs. search needs) (λ c κs. search needs) (λ c. search needs) (λ c. search needs) (λ c. search needs)
+    (λ c κs. search needs) (λ c κs. search needs)
+    (λ c. search needs)
+    returns)

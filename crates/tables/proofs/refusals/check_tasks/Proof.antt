@@ -23,7 +23,7 @@ again : tie.Need-loop-again Inv-loop μ-loop
 again c = (
   search needs,
   search needs,
-  rw (ascending-more, c .before2 .ensures, c .before .check-one-task .ensures, c .before .before .before .loop .inv .2),
+  rw (ascending-more, c .before2 .ensures, c .before .check-task .ensures _ (c .before .before .task-at .ensures), c .before .before .before .before .loop .inv .2),
 )
 
 all : tie.Need-returns-2 Inv-loop μ-loop
@@ -36,5 +36,5 @@ pub check-tasks-spec : {M : Type 1} → statement M
 unfolding taskCount refuse before outside check2 checkTasks
 check-tasks-spec =
     tie.close
-    (tie.spec Inv-loop μ-loop (λ c. rw (c .if1 .taken)) (λ c. (search needs, search failed, sym (ascending-none _))) (λ c. search needs) (λ c κs. search needs)
-    (λ c κs. search needs) (λ c. search needs) (λ c. search needs) again all)
+    (tie.spec Inv-loop μ-loop (λ c. rw (c .if1 .taken)) (λ c. (search needs, search failed, sym (ascending-none _)))
+    (λ c. search needs) (λ c κs. search needs) (λ c. search needs) (λ c κs. search needs) (λ c κs. search needs) (λ c. search needs) (λ c. search needs) again all)

@@ -5,10 +5,4 @@ use Rattle.trials.proofs.parts.put_back.Statement.{statement}
 use Rattle.trials.proofs.parts.put_back.Tie as tie
 
 pub put-back-spec : {M : Type 1} → statement M
-put-back-spec = tie.close
-    (tie.spec
-    (λ _ _ _ _ _. 0 ≤ 0)
-    (λ _ _ _ _ j. 64 - j)
-    (search needs) (search needs) (search needs) (search needs) (search needs) (search needs) (search needs) (search needs) (search needs)
-    (search needs) (search needs) (search needs) (search needs) (search needs) (search needs) (search needs) (search needs) (search needs)
-    (search needs) (search needs) (search needs) (search needs) (search needs) (search needs) (search needs) (search needs) (search needs))
+put-back-spec = tie.close (tie.spec (λ _ _ _ _ _. 0 ≤ 0) (λ _ _ _ _ j. 64 - j) (search needs) (search needs) (search needs) (search needs) (search needs) (search needs) (search needs) (search needs) (search needs) (search needs) (search needs) (search needs) (search needs) (search needs) (search needs) (search needs) (search needs) (search needs) (search needs) (search needs) (search needs) (search needs) (search needs) (search needs) (search needs) (search needs) (search needs) (search needs) (search needs) (search needs))

@@ -5,9 +5,4 @@ use Rattle.trials.proofs.records.holds.Statement.{statement}
 use Rattle.trials.proofs.records.holds.Tie as tie
 
 pub holds-spec : {M : Type 1} → statement M
-holds-spec = tie.close
-    (tie.spec
-    (λ _ _ _ _ _ _ _. 0 ≤ 0)
-    (λ _ _ _ _ _ _ j. 64 - j)
-    (search needs) (search needs) (search needs) (search needs) (search needs) (search needs) (search needs) (search needs) (search needs)
-    (search needs) (search needs) (search needs) (search needs) (search needs) (search needs) (search needs) (search needs))
+holds-spec = tie.close (tie.spec (λ _ _ _ _ _ _ _. 0 ≤ 0) (λ _ _ _ _ _ _ j. 64 - j) (search needs) (search needs) (search needs) (search needs) (search needs) (search needs) (search needs) (search needs) (search needs) (search needs) (search needs) (search needs) (search needs) (search needs) (search needs) (search needs) (search needs) (search needs) (search needs))

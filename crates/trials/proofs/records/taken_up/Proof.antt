@@ -5,10 +5,4 @@ use Rattle.trials.proofs.records.taken_up.Statement.{statement}
 use Rattle.trials.proofs.records.taken_up.Tie as tie
 
 pub taken-up-spec : {M : Type 1} → statement M
-taken-up-spec = tie.close
-    (tie.spec
-    (λ _ _ _ _ _ _ _ _ _ _ _ _ _. 0 ≤ 0)
-    (λ _ _ _ _ _ _ _ _ _ _ _ _ j. 64 - j)
-    (search needs) (search needs) (search needs) (search needs) (search needs) (search needs) (search needs) (search needs) (search needs)
-    (search needs) (search needs) (search needs) (search needs) (search needs) (search needs) (search needs) (search needs) (search needs)
-    (search needs))
+taken-up-spec = tie.close (tie.spec (λ _ _ _ _ _ _ _ _ _ _ _ _ _. 0 ≤ 0) (λ _ _ _ _ _ _ _ _ _ _ _ _ j. 64 - j) (search needs) (search needs) (search needs) (search needs) (search needs) (search needs) (search needs) (search needs) (search needs) (search needs) (search needs) (search needs) (search needs) (search needs) (search needs) (search needs) (search needs) (search needs) (search needs) (search needs) (search needs) (search needs))

@@ -17,7 +17,7 @@ returns c =
     (ap₂ (λ (x y : Bool). x || y)
     (ap₂ (λ (x y : Bool). x || y) (ap (λ (x : Job). eqb (x .arrival) (a .t)) (c .before .before .before .before .before .job-at .ensures)) (c .before .is-finished-at .ensures))
     (ap (λ (x : ℕ). eqb x (a .t)) (c .zero-slack-instant .ensures)))
-    (ap (λ (x : ℕ). (a .se && eqb (a .last) (a .j)) && eqb (a .place .done) x) (c .before .before .before .before .nominal-of .ensures))
+    (ap (λ (x : ℕ). (a .se && eqb (a .last) (a .j)) && eqb (a .place .done) x) (c .before .before .before .nominal-of .ensures))
 
 pub is-instant-by-spec : {M : Type 1} → statement M
-is-instant-by-spec = tie.close (tie.spec (λ c κs. search needs) (λ c κs. search needs) (λ c κs. search needs) (λ c κs. search needs) returns)
+is-instant-by-spec = tie.close (tie.spec (λ c κs. search needs) (λ c. search needs) (λ c κs. search needs) (λ c κs. search needs) (λ c κs. search needs) returns)

@@ -1,0 +1,8 @@
+-- Each branch is the one that the test picks.
+use native.Mathlib.Nat.{add-zero}
+use borrow.Author.Needs.{needs}
+use Rattle.zsrm.proofs.next.more_if.Statement.{statement}
+use Rattle.zsrm.proofs.next.more_if.Tie as tie
+
+pub more-if-spec : {M : Type 1} → statement M
+more-if-spec = tie.close (tie.spec (λ c. search needs) (λ c. rw (c .if1 .taken)) (λ c. rw (c .if1 .left, add-zero)))
