@@ -30,12 +30,13 @@ pub fn run_each(
 {
     let found = check_batch(tasks, jobs, counts, horizon, schedule.len());
     let outcome = found.outcome;
+    let run = found.run;
     match outcome {
         Outcome::Done => {
             let records = run_lists(mode, tasks, jobs, counts, horizon, schedule);
             Batch {
                 outcome: Outcome::Done,
-                run: found.run,
+                run,
                 records,
             }
         }
@@ -43,7 +44,7 @@ pub fn run_each(
             let records = no_records();
             Batch {
                 outcome: Outcome::Refused(number, place),
-                run: found.run,
+                run,
                 records,
             }
         }

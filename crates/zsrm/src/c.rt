@@ -72,6 +72,6 @@ pub extern "C" fn zsrm_claim(
     );
     match found {
         Outcome::Done => claim_bytes(mode, tasks, jobs, &masks, &g, schedule),
-        Outcome::Refused(number, place) => packed(number, place),
+        Outcome::Refused(number, at) => packed(number, at),
     }
 }

@@ -4,7 +4,7 @@ ghost use mathlib.Core.Bool.{_&&_, cond};
 ghost use Prim.Native.Nat.{_≤_, _<_};
 ghost use lib.Dec.{ltb};
 ghost use lib.ListN.{length};
-ghost use Rattle.bits.specs.Below.{word, least};
+ghost use Rattle.bits.specs.Below.{word, bit, greatest, least};
 ghost use Rattle.tables.specs.Tables.{idle};
 ghost use Rattle.zsrm.specs.Code.Gathered.{pastIn, lessIn, levelIn, mostPast, freeWord, viewIn, mayRunIn, chosenIn, topOrIdleIn, waitingIn, tickedIn};
 ghost use Rattle.zsrm.specs.Code.Underway.{endedIn, mostOver};
@@ -184,12 +184,19 @@ fn may_run(among: u64, p: Priority, entry: u16, n: usize, g: &[u16]) -> bool
     }
 }
 
+// The top priority that is ready; 64, which is no priority, where none is.
+fn top_priority(ready: u64) -> Priority
+    ensures { λ r. ⌜ r .0 ≡ greatest 64 (bit ready) 64 ⌝ }
+{
+    Priority(bits::highest(ready))
+}
+
 // The job that stays, or the lowest-numbered eligible job of the top priority that is ready, or idle: 64 is no priority.
 pub(crate) fn choice(seen: View, tie: Tie, previous: u16, n: usize, g: &[u16]) -> u16
     requires { ⌜ (n ≤ 64) × (length (now g) ≡ 320) ⌝ }
     ensures { λ r. ⌜ r ≡ chosenIn (now (g .entry)) n tie seen previous ⌝ }
 {
-    let top = Priority(bits::highest(seen.ready));
+    let top = top_priority(seen.ready);
     let may = may_run(seen.eligible, top, previous, n, g);
     if is_stay(tie) & may {
         previous
@@ -203,7 +210,7 @@ pub(crate) fn is_top_or_idle(seen: View, entry: u16, n: usize, g: &[u16]) -> boo
     requires { ⌜ (n ≤ 64) × (length (now g) ≡ 320) ⌝ }
     ensures { λ r. ⌜ r ≡ topOrIdleIn (now (g .entry)) n seen entry ⌝ }
 {
-    let top = Priority(bits::highest(seen.ready));
+    let top = top_priority(seen.ready);
     may_run(seen.eligible, top, entry, n, g) | ((entry == IDLE) & (seen.ready == 0))
 }
 

@@ -98,8 +98,8 @@ pub fn run(
     let checked = check_schedule(tasks, jobs, horizon, schedule.len());
     match checked {
         Outcome::Done => {
-            let record = run_from(fresh_record(jobs), mode, tie, tasks, jobs, schedule);
-            or_blank(Outcome::Done, record)
+            let made = run_from(fresh_record(jobs), mode, tie, tasks, jobs, schedule);
+            or_blank(Outcome::Done, made)
         }
         Outcome::Refused(number, place) => or_blank(
             Outcome::Refused(number, place),

@@ -1,13 +1,7 @@
-// Document 01, one tick from a record to the next: the public step and the fresh record.
+// Document 01, one tick from a record to the next: the step and the fresh record.
 ghost use mathlib.Core.Path.{_≡_};
-ghost use mathlib.Core.Bool.{true};
-ghost use Prim.Native.Nat.{_<_};
-ghost use Rattle.tables.specs.declared.answers.Outcome.{Outcome};
-ghost use Rattle.tables.specs.Tables.{lists};
-ghost use Rattle.tables.specs.Refusals.{checkLists};
-ghost use Rattle.zsrm.specs.Record.{consistent};
 ghost use Rattle.zsrm.specs.Given.{given};
-ghost use Rattle.zsrm.specs.Answers.{refusedStep, stepped, checkStep, freshAnswer, stepAnswer};
+ghost use Rattle.zsrm.specs.Answers.{refusedStep, checkStep, freshAnswer, stepAnswer};
 use crate::answers::Ran;
 use crate::answers::Stepped;
 use crate::answers::or_blank;
@@ -57,29 +51,6 @@ fn check_step(rec: Record, mode: Mode, tasks: &[u32], jobs: &[u32]) -> Outcome
 }
 
 impl Record {
-    // One tick of our run, on lists that passed their checks, from a consistent record before tick 16,384.
-    fn advance(self, mode: Mode, tie: Tie, tasks: &[u32], jobs: &[u32]) -> Stepped
-        requires { ⌜ checkLists (lists (now tasks) (now jobs)) ≡ Outcome.Done ⌝ }
-        requires { ⌜ (consistent (given mode (now tasks) (now jobs)) self ≡ true) × (self .tick < 16384) ⌝ }
-        ensures { λ r. ⌜ r ≡ stepped (given mode (now (tasks .entry)) (now (jobs .entry))) tie self ⌝ }
-    {
-        let g = gathered(tasks, jobs);
-        let n = job_count(jobs);
-        let seen = look(alive_in(self, 0, n), self.tick, &g);
-        let entry = choice(seen, tie, self.previous, n, &g);
-        let ended = ended_in(seen, self, is_se(mode), entry, &g);
-        let record = self.after(1, ticked(seen, entry, ended, n), 0, n, &g);
-        let ones = bits::ones(seen.ready);
-        Stepped {
-            outcome: Outcome::Done,
-            record,
-            ready: seen.ready,
-            ones,
-            entry,
-            ended,
-        }
-    }
-
     // The fresh record of the jobs, whatever this one holds; refusals 2 to 8.
     pub fn fresh(self, tasks: &[u32], jobs: &[u32]) -> Ran
         ensures { λ r. ⌜ r ≡ freshAnswer (now (tasks .entry)) (now (jobs .entry)) ⌝ }
@@ -93,7 +64,23 @@ impl Record {
     {
         let checked = check_step(self, mode, tasks, jobs);
         match checked {
-            Outcome::Done => self.advance(mode, tie, tasks, jobs),
+            Outcome::Done => {
+                let g = gathered(tasks, jobs);
+                let n = job_count(jobs);
+                let seen = look(alive_in(self, 0, n), self.tick, &g);
+                let entry = choice(seen, tie, self.previous, n, &g);
+                let ended = ended_in(seen, self, is_se(mode), entry, &g);
+                let record = self.after(1, ticked(seen, entry, ended, n), 0, n, &g);
+                let ones = bits::ones(seen.ready);
+                Stepped {
+                    outcome: Outcome::Done,
+                    record,
+                    ready: seen.ready,
+                    ones,
+                    entry,
+                    ended,
+                }
+            }
             Outcome::Refused(number, place) => refused_step(number, place),
         }
     }

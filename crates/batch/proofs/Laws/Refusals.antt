@@ -101,14 +101,14 @@ module _ (tasks jobs counts : List ℕ) where
     unfolding checkCall check9 refuse before
     call-unfit table few never = rw (table, le-ltb 16384 horizon few) (unfit jobs counts horizon entries never)
 
-    pub batch-runs : checkCall tasks jobs counts horizon entries ≡ Done → checkBatch tasks jobs counts horizon entries ≡ checkRuns tasks jobs counts (length counts)
-    unfolding checkBatch
-    batch-runs ok = goes-first-later _ _ (with-run-outcome 0 _ ∙ ok)
-
     pub batch-call : (number place : ℕ) → checkCall tasks jobs counts horizon entries ≡ Refused number place
         → checkBatch tasks jobs counts horizon entries ≡ withRun 0 (Refused number place)
     unfolding checkBatch
     batch-call number place refuses = goes-first-keeps _ _ number place (with-run-outcome 0 _ ∙ refuses) ∙ ap (withRun 0) refuses
+
+    pub batch-runs : checkCall tasks jobs counts horizon entries ≡ Done → checkBatch tasks jobs counts horizon entries ≡ checkRuns tasks jobs counts (length counts)
+    unfolding checkBatch
+    batch-runs ok = goes-first-later _ _ (with-run-outcome 0 _ ∙ ok)
 
     pub batch-passes : checkBatch tasks jobs counts horizon entries .outcome ≡ Done → checkCall tasks jobs counts horizon entries ≡ Done
     unfolding checkBatch

@@ -9,6 +9,12 @@ use Rattle.index.proofs.Laws.Refusals.{given-checked, given-whole, size
 use Rattle.index.proofs.build.Statement.{statement}
 use Rattle.index.proofs.build.Tie as tie
 
+-- something is refused
+returns-2 : tie.Need-returns-2
+returns-2 c =
+    let e = sym (c .before .before .before .check-build .ensures) ∙ c .before .found .given .1 in
+    (sym e, sym (build-keeps _ _ _ _ _ e))
+
 -- nothing is refused
 found : (c : tie.After-enum-told) → let a = c .before .before .before .before .before .before .before .before .args in
     buildAnswer (plan (a .tasks .now) (a .jobs .now) (a .horizon)) (a .schedule .now) (a .index .now) ≡ Done
@@ -25,11 +31,6 @@ returns c =
     let write = c .before .before in
     let ok = found (write .before .before) in
     (sym ok, write .write-rows .ensures ∙ sym (build-writes _ _ _ ok))
-
-returns-2 : tie.Need-returns-2
-returns-2 c =
-    let e = sym (c .before .before .before .check-build .ensures) ∙ c .before .found .given .1 in
-    (sym e, sym (build-keeps _ _ _ _ _ e))
 
 pub build-spec : {M : Type 1} → statement M
 build-spec =

@@ -48,8 +48,8 @@ put-row k x e short w =
     (whole, omega (arith, whole .next-is, line-length k x e short))
 
 -- in 2,048 bytes all of it is written, if the writing stops before the end
-pub shown-all : (report : Report) {l m : List ℕ} {k : ℕ} → 2048 ≤ length l → k ≤ 1558 → Put l 0 (showing report) m k → Wrote l 0 (showing report) m k
-shown-all report long few w = put-all w (omega (arith, w .next-is))
+pub shown-all : (report : Report) {l m : List ℕ} {k : ℕ} → Put l 0 (showing report) m k → 2048 ≤ length l → k ≤ 1558 → Wrote l 0 (showing report) m k
+shown-all report w long few = put-all w (omega (arith, w .next-is))
 
 pub put-rows : (report : Report) (k : ℕ) {x : Row} {l m n : List ℕ} {at a b : ℕ} → x ≡ rowAt report k → Put l at (rowLines report k) m a → Put m a (rowLine k x) n b
     → Put l at (rowLines report (k + 1)) n b

@@ -1,19 +1,28 @@
 -- The sheet says whether the text is formed, and its lists are the text's.
-use mathlib.Core.Path.{sym}
+use Prim.Native.Nat.{ℕ, _≤_}
+use mathlib.Core.List.{List}
+use mathlib.Core.Path.{sym, _≡_}
 use native.Mathlib.Omega.{arith}
+use lib.ListN.{length}
 use lib.Seq.{length-take-le}
 use borrow.Author.Needs.{needs}
 use borrow.Author.Tests.{not-false, not-true}
+use Rattle.text.specs.Wrote.{Put, Wrote}
+use Rattle.sheet.specs.Listing.{listing}
 use Rattle.sheet.proofs.Promise.{listing-fits, listing-formed, listing-malformed}
 use Rattle.sheet.proofs.Laws.WellFormed.{WellFormed, well-formed, unformed}
 use Rattle.sheet.proofs.listing.Statement.{statement}
 use Rattle.sheet.proofs.listing.Tie as tie
 
+-- bytes that are the listing, written
+written : (text : List ℕ) {bytes l m : List ℕ} {k : ℕ} → bytes ≡ listing text → 600000 ≤ length l → Put l 0 bytes m k → Wrote l 0 (listing text) m k × (k ≤ length m)
+written text is room put = listing-fits text room (rw is at put)
+
 returns : tie.Need-returns
 returns c =
     let text = c .before .before .before .before .before .before .args .input .now in
     let bad = unformed text (c .before .before .before .before .parse .ensures) (not-true _ (c .before .before .if1 .taken)) in
-    listing-fits text (search needs) (rw (listing-malformed text bad) at (c .put-refused .ensures))
+    written text (listing-malformed text bad) (search needs) (c .put-refused .ensures)
 
 formed : (c : tie.After-table) → WellFormed (c .before .before .before .before .before .args .input .now) (c .before .before .before .parse .result)
 formed c = well-formed (c .before .before .before .before .before .args .input .now) (c .before .before .before .parse .ensures) (not-false _ (c .before .if1 .left))
@@ -21,7 +30,7 @@ formed c = well-formed (c .before .before .before .before .before .args .input .
 returns-2 : tie.Need-returns-2
 returns-2 c =
     let text = c .before .before .before .before .before .before .before .before .before .before .before .before .args .input .now in
-    listing-fits text (search needs) (rw (listing-formed text (formed (c .before .before .before .before .before .before .before))) at (c .put-sheet .ensures))
+    written text (listing-formed text (formed (c .before .before .before .before .before .before .before))) (search needs) (c .put-sheet .ensures)
 
 pub listing-spec : {M : Type 1} → statement M
 listing-spec =

@@ -7,7 +7,7 @@ use Rattle.season.proofs.lines.show.Tie as tie
 returns : tie.Need-returns
 returns c =
     let rows = c .put-rows .ensures in
-    (shown-all (c .before .before .args .report) (search needs) (rows .1) (rows .0), rows .1)
+    (shown-all (c .before .before .args .report) (rows .0) (search needs) (rows .1), rows .1)
 
 pub show-spec : {M : Type 1} → statement M
 show-spec = tie.close (tie.spec (λ c κs. search needs) returns)

@@ -1,5 +1,6 @@
 -- What the checks found decides: the claim on the lists that the bytes spell, or the packed refusal.
 use mathlib.Core.Path.{refl, sym, _∙_}
+use native.Mathlib.Omega.{arith}
 use lib.ListN.{length}
 use borrow.Author.Needs.{needs}
 use Rattle.zsrm.proofs.Laws.Called.{Passed, RefusedCall, c-claims, call-passed, stopped}
@@ -24,6 +25,6 @@ pub zsrm-claim-spec : {M : Type 1} → statement M
 zsrm-claim-spec =
     tie.close
     (tie.spec (λ c. search needs) (λ c. search needs) (λ c κs. (refl, refl, λ q _. zeros-read 32 q)) (λ c. search needs) (λ c. search needs) (λ c. search needs) claims (λ c. search needs)
-    (λ c κs. let w = refusal (c .before) in (w .small .1, w .small .2))
+    (λ c κs. let w = refusal (c .before) in (w .small .1, omega (arith, w .small .2)))
     (λ c. c-claims _ _ _ _ _ (checked (c .before .before .before)) _ (c .claim-bytes .ensures))
     (λ c. c .packed .ensures ∙ refusal (c .before .before) .claimed))

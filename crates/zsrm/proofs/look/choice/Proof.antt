@@ -5,11 +5,11 @@ use Rattle.zsrm.proofs.look.choice.Statement.{statement}
 use Rattle.zsrm.proofs.look.choice.Tie as tie
 
 returns : tie.Need-returns
-returns c = chosen-kept-in _ _ _ _ _ _ _ _ (c .before .before .before .highest .ensures) (c .before .is-stay .ensures) (c .before .before .may-run .ensures) (c .if1 .taken)
+returns c = chosen-kept-in _ _ _ _ _ _ _ _ (c .before .before .before .top-priority .ensures) (c .before .is-stay .ensures) (c .before .before .may-run .ensures) (c .if1 .taken)
 
 returns-2 : tie.Need-returns-2
 returns-2 c =
-    chosen-else-in _ _ _ _ _ _ _ _ (c .before .before .before .before .highest .ensures) (c .before .before .is-stay .ensures) (c .before .before .before .may-run .ensures)
+    chosen-else-in _ _ _ _ _ _ _ _ (c .before .before .before .before .top-priority .ensures) (c .before .before .is-stay .ensures) (c .before .before .before .may-run .ensures)
     (c .before .if1 .left) _ (c .lowest-of .ensures)
 
 pub choice-spec : {M : Type 1} → statement M

@@ -14,7 +14,7 @@ unfolding topOrIdleIn
 returns c =
     let s = c .before .before .before .before .args in
     ap (λ (b : Bool). b || (eqb (s .entry) idle && eqb (s .seen .ready) 0))
-    (c .before .may-run .ensures ∙ ap (λ (x : ℕ). mayRunIn (s .g .now) (s .n) (s .seen .eligible) x (s .entry)) (c .before .before .highest .ensures))
+    (c .before .may-run .ensures ∙ ap (λ (x : ℕ). mayRunIn (s .g .now) (s .n) (s .seen .eligible) x (s .entry)) (c .before .before .top-priority .ensures))
 
 pub is-top-or-idle-spec : {M : Type 1} → statement M
 is-top-or-idle-spec = tie.close (tie.spec (λ c κs. search needs) (λ c κs. search needs) returns)
