@@ -2,7 +2,7 @@
 use zsrm::{Outcome, Record};
 
 // The answer of a batch: the refused run's number, or 0; the records by the numbers of their runs, all others blank.
-#[derive(Drop)]
+#[derive(Clone, Copy)]
 pub struct Batch {
     pub outcome: Outcome,
     pub run: u32,

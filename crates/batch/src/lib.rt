@@ -1,5 +1,7 @@
 // Request Five, many runs in one call: up to 32 job lists against one table, each run's schedule at its own place in the one lent list. What
 // is one run's is the library's own `run`.
+#![tactic(auto)]
+
 ghost use Rattle.std.specs.Prelude.{◌≡◌};
 ghost use Rattle.batch.specs.Answers.{batch_answer, batch_schedule};
 ghost use Rattle.batch.specs.Runs.{offer};

@@ -8,7 +8,7 @@ use tables::{before, check_jobs, check_tasks, check9, refuse};
 use zsrm::Outcome;
 
 // What checks found, and the number of the run that it is about.
-#[derive(Drop)]
+#[derive(Clone, Copy)]
 pub(crate) struct Found {
     pub outcome: Outcome,
     pub run: u32,

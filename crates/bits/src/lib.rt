@@ -1,5 +1,7 @@
 // 64-bit words: a bit set, the ones, the highest bit, and the set bits one by one from the lowest; and the number of a test.
 // Each function has one answer for every input, and `proofs/Laws/Word.antt` has the laws by which a caller reads it.
+#![tactic(auto)]
+
 ghost use Rattle.std.specs.Prelude.{◌≡◌, cond};
 ghost use Rattle.bits.specs.Below.{count, greatest, least, bit};
 ghost use Rattle.bits.specs.Word.{with_bit, without, without_lowest};

@@ -3,7 +3,7 @@ use tables::Outcome;
 
 // What is read at a trailer: its layout number and the preceding trailer's place, after 21 and 22 0 and `NONE`; the table's tasks and
 // numbers, where nothing is refused, else 0. Fields behind the table's are 0.
-#[derive(Drop)]
+#[derive(Clone, Copy)]
 pub struct Read {
     pub outcome: Outcome,
     pub layout: u32,
@@ -13,7 +13,7 @@ pub struct Read {
 }
 
 // What an append came to: refused with a number and a place, or the used length with the table and its trailer.
-#[derive(Drop)]
+#[derive(Clone, Copy)]
 pub enum Appended {
     Refused(u32, u32),
     Used(usize),

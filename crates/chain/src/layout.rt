@@ -3,14 +3,14 @@ ghost use Rattle.std.specs.Prelude.{◌≡◌, ◌*◌, ◌/◌, ◌≤◌};
 ghost use Rattle.chain.specs.Layout.{width, number_of, known};
 
 // One: document 01's seven numbers per task. Two: an eighth behind them, a label.
-#[derive(Drop)]
+#[derive(Clone, Copy)]
 pub enum Layout {
     One,
     Two,
 }
 
 // A layout number, to a reader.
-#[derive(Drop)]
+#[derive(Clone, Copy)]
 pub(crate) enum Known {
     Is(Layout),
     Unknown,

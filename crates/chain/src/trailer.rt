@@ -11,7 +11,7 @@ use tables::{Outcome, number_at, refuse};
 pub const NONE: u32 = 4294967295;
 
 // What a trailer says, each a number of four bytes.
-#[derive(Drop)]
+#[derive(Clone, Copy)]
 pub(crate) struct Trailer {
     // the byte place at which its table starts
     pub start: u32,

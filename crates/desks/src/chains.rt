@@ -15,7 +15,7 @@ use drawn::tally::{Tally, note};
 type Book = [u8; 2048];
 
 // A file: its bytes, its used length, and of each table that was taken its number in the trial and the used length behind it.
-#[derive(Drop)]
+#[derive(Clone, Copy)]
 struct Held {
     bytes: Book,
     used: usize,
@@ -23,7 +23,7 @@ struct Held {
 }
 
 // A table in a layout, of so many tasks: all its numbers, and its tasks' seven without labels, none where its length is wrong.
-#[derive(Drop)]
+#[derive(Clone, Copy)]
 struct Table {
     layout: u32,
     tasks: u32,
@@ -32,7 +32,7 @@ struct Table {
 }
 
 // What a reader must be told at a place.
-#[derive(Drop)]
+#[derive(Clone, Copy)]
 struct Due {
     answer: u64,
     layout: u32,
@@ -42,14 +42,14 @@ struct Due {
 }
 
 // The bytes after an append, and what it answered.
-#[derive(Drop)]
+#[derive(Clone, Copy)]
 struct Lent {
     bytes: Book,
     answer: u64,
 }
 
 // A change at a place: of one byte below TRAILER, of a trailer below ALL, of all bytes.
-#[derive(Drop)]
+#[derive(Clone, Copy)]
 struct Change {
     kind: u32,
     place: u32,

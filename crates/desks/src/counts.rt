@@ -13,7 +13,7 @@ pub(crate) const STALE: u32 = 4000000001;
 pub(crate) const NEITHER: u32 = 99;
 
 // A schedule and the index beside it, how many of its numbers are lent, and whether it was built of this schedule.
-#[derive(Drop)]
+#[derive(Clone, Copy)]
 pub(crate) struct Held {
     pub line: Line,
     pub rows: Rows,
@@ -86,7 +86,7 @@ pub(crate) fn index_of(line: &Line, tasks: &[u32], jobs: &[u32], size: usize) ->
 
 // What a replacement must leave, the schedule and the index; whether it strays, an entry being neither job nor idle or a number leaving 0 to the
 // horizon; and whether both entries are of the same column.
-#[derive(Drop)]
+#[derive(Clone, Copy)]
 pub(crate) struct Change {
     pub line: Line,
     pub rows: Rows,

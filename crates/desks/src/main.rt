@@ -1,5 +1,7 @@
 // Tries the calls that stand apart from the scheduler, each against a plain count of its own, on random lists, damaged lists and altered ones
 // from a fixed seed. It writes for each group how often each call gave each answer; a difference is written with its whole input.
+#![tactic(auto)]
+
 mod chains;
 mod counts;
 mod groups;

@@ -58,7 +58,7 @@ fn made_up(tasks: u32, trial: u32, from: u32, range: u32) -> Report {
 }
 
 // Two rows as one, and whether a number of it has no room.
-#[derive(Drop)]
+#[derive(Clone, Copy)]
 struct Sum {
     row: Row,
     over: bool,
@@ -91,7 +91,7 @@ fn plus(a: Row, b: Row) -> Sum {
 }
 
 // What two reports come to, and whether that is refused.
-#[derive(Drop)]
+#[derive(Clone, Copy)]
 struct Due {
     report: Report,
     over: bool,

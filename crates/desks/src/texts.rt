@@ -56,7 +56,7 @@ const NO_DIGITS: [u32; 8] = [47, 58, 32, 10, 0, 255, 45, 112];
 
 // The digits of a text from a place on: how many, whether the first of several is 0, whether they say more than 32 bits hold, and whether
 // they are those of a number, zeros before it aside.
-#[derive(Drop)]
+#[derive(Clone, Copy)]
 struct Digits {
     count: u32,
     zero: bool,
@@ -173,7 +173,7 @@ fn front_bytes(bytes: &[u8], n: usize) -> &[u8] {
 }
 
 // What a reader answers: the number, and how far behind the place it ends, 0 for no number.
-#[derive(Drop)]
+#[derive(Clone, Copy)]
 struct Seen {
     x: u32,
     length: usize,

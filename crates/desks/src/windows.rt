@@ -17,7 +17,7 @@ const MISSED_JOB: u32 = 1;
 const OPEN_JOB: u32 = 2;
 
 // A question: whether every k consecutive jobs of the task contain at most m misses.
-#[derive(Drop)]
+#[derive(Clone, Copy)]
 struct Question {
     task: u32,
     m: u32,
@@ -25,14 +25,14 @@ struct Question {
 }
 
 // The jobs of a task: their numbers, and what is said of each.
-#[derive(Drop)]
+#[derive(Clone, Copy)]
 struct Own {
     numbers: List,
     fates: List,
 }
 
 // 0 where every window passes, NUMBERED and its first job's number where one fails, or a refusal; its misses; how many jobs are open.
-#[derive(Drop)]
+#[derive(Clone, Copy)]
 struct Judged {
     answer: u64,
     misses: u32,

@@ -6,7 +6,7 @@ use crate::draw::draw;
 use crate::list::{List, NOMINAL, OVERLOAD, PERIOD, least, less};
 
 // The input of a trial: the mode, the horizon, how many entries are lent, the two lists.
-#[derive(Drop)]
+#[derive(Clone, Copy)]
 pub struct Input {
     pub se: bool,
     pub horizon: u32,
@@ -17,7 +17,7 @@ pub struct Input {
 
 // How large an input is: how many tasks and at most how many jobs, the least period, the range of times, the widest gap before an
 // arrival, the longest horizon.
-#[derive(Drop)]
+#[derive(Clone, Copy)]
 pub struct Size {
     pub tasks: u32,
     pub jobs: u32,
@@ -91,7 +91,7 @@ fn make_tasks(trial: u32, size: Size) -> List {
 }
 
 // The jobs so far, the last arrival, the work of them all, and for each task the soonest that it may come again.
-#[derive(Drop)]
+#[derive(Clone, Copy)]
 struct Making {
     jobs: List,
     last: u32,

@@ -73,7 +73,7 @@ pub fn tasks_key(tasks: &[u32]) -> u32 {
 
 // The least key of the jobs so far, the arrival of the last one, and for each task one more than its latest arrival, or 0. After an
 // arrival that is out of range its number no longer matters: no later key is less.
-#[derive(Drop)]
+#[derive(Clone, Copy)]
 struct Seen {
     key: u32,
     arrival: u32,

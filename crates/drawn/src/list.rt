@@ -2,7 +2,7 @@
 ghost use Rattle.std.specs.Prelude.{◌<◌, ◌≤◌};
 
 // Room for 17 tasks and for 66 jobs, which are more than are allowed.
-#[derive(Drop)]
+#[derive(Clone, Copy)]
 pub struct List {
     pub at: [u32; 224],
     pub len: usize,
@@ -13,7 +13,7 @@ pub type Line = [u16; 16384];
 
 // What a trial is about besides its lists: its number, which is the seed of all that is drawn for it, the mode, the way to choose among
 // equals, the horizon, and how many entries are lent.
-#[derive(Drop)]
+#[derive(Clone, Copy)]
 pub struct Case {
     pub trial: u32,
     pub se: bool,

@@ -8,7 +8,7 @@ use bits::one_if;
 use tables::{IDLE, job_at, job_count};
 
 // How many ticks, and whether every entry that was read for it is a job or idle.
-#[derive(Drop)]
+#[derive(Clone, Copy)]
 pub(crate) struct Tally {
     pub ticks: u64,
     pub known: bool,

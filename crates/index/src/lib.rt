@@ -1,5 +1,7 @@
 // Request One, the schedule in stretches, indexed by task: an index of 32-bit numbers beside the schedule, a row for each multiple of 64,
 // which answers how many ticks a task had between two moments, and follows the schedule when one entry is replaced.
+#![tactic(auto)]
+
 ghost use Rattle.std.specs.Prelude.{◌≡◌};
 ghost use Rattle.index.specs.Answers.{between_answer, build_answer, build_index, replace_answer, replace_index, replace_schedule};
 ghost use Rattle.index.specs.Counts.{plan};

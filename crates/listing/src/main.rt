@@ -1,4 +1,6 @@
 // Reads an input text from standard input and prints its listing.
+#![tactic(auto)]
+
 use libc::{STDIN_FILENO, STDOUT_FILENO};
 
 fn main() {

@@ -1,5 +1,7 @@
 // Request Seven: the planter's fixed set of three tasks above the library. Callers give only mode, horizon and jobs; a day's admission says
 // what one more job would change. What is certain for down-force stands in proofs/Promise, that no job is ever late in proofs/Promise/NeverLate.
+#![tactic(auto)]
+
 mod admission;
 mod answers;
 mod calls;

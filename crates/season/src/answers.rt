@@ -2,7 +2,7 @@
 use zsrm::Outcome;
 
 // The numbers of one task. A response is a finishing instant minus the job's arrival.
-#[derive(Drop)]
+#[derive(Clone, Copy)]
 pub struct Row {
     pub met: u32,
     pub late: u32,
@@ -17,28 +17,28 @@ pub struct Row {
 }
 
 // The rows by the numbers of their tasks; those from min(tasks, 16) on are not looked at.
-#[derive(Drop)]
+#[derive(Clone, Copy)]
 pub struct Report {
     pub tasks: u32,
     pub rows: [Row; 16],
 }
 
 // The answer of each call; a refused one hands back the report as it was.
-#[derive(Drop)]
+#[derive(Clone, Copy)]
 pub struct Reported {
     pub outcome: Outcome,
     pub report: Report,
 }
 
 // The mean response: a whole quotient, a remainder and the count of finished jobs; there is none without one.
-#[derive(Drop)]
+#[derive(Clone, Copy)]
 pub enum Mean {
     None,
     Of(u32, u32, u32),
 }
 
 // The least and the greatest response; there are none without a finished job.
-#[derive(Drop)]
+#[derive(Clone, Copy)]
 pub enum Extremes {
     None,
     Of(u32, u32),

@@ -7,7 +7,7 @@ use text::Number;
 use zsrm::Mode;
 
 // What an input text says; where it is malformed, not formed, and every number in it is 0.
-#[derive(Drop)]
+#[derive(Clone, Copy)]
 pub(crate) struct Sheet {
     pub formed: bool,
     pub mode: Mode,
@@ -19,14 +19,14 @@ pub(crate) struct Sheet {
 }
 
 // The first line: mode letter, horizon, task count, job count, and the position after it.
-#[derive(Drop)]
+#[derive(Clone, Copy)]
 pub(crate) enum Head {
     Heading(u32, u32, u32, u32, usize),
     NoHead,
 }
 
 // The position after what was read.
-#[derive(Drop)]
+#[derive(Clone, Copy)]
 pub(crate) enum Next {
     At(usize),
     Broken,

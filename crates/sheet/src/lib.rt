@@ -1,4 +1,6 @@
 // The program's text: the input read, the listing written. Document 01, "The listing", stands as definitions in specs/.
+#![tactic(auto)]
+
 ghost use Rattle.std.specs.Prelude.{◌⊎◌, ◌≡◌, ◌≤◌, ◌<◌, length};
 ghost use Rattle.sheet.specs.Listing.{given_listing, listing, printed};
 ghost use Rattle.text.specs.Wrote.{Put, Wrote};

@@ -8,11 +8,11 @@ ghost use Rattle.tables.specs.Fields.{task_at, job_at};
 pub const IDLE: u16 = 65535;
 
 // Larger runs first. No criticality is one.
-#[derive(Drop)]
+#[derive(Clone, Copy)]
 pub struct Priority(pub u32);
 
 // Larger matters more. No priority is one.
-#[derive(Drop)]
+#[derive(Clone, Copy)]
 pub struct Criticality(pub u32);
 
 // The number at place i, or 0 past the list's end.
@@ -30,7 +30,7 @@ pub fn job_count(jobs: &[u32]) -> usize
 }
 
 // A task's fields.
-#[derive(Drop)]
+#[derive(Clone, Copy)]
 pub struct Task {
     pub period: u32,
     pub deadline: u32,
@@ -59,7 +59,7 @@ pub(crate) fn task_at(tasks: &[u32], k: u32) -> Task
 }
 
 // A job's fields.
-#[derive(Drop)]
+#[derive(Clone, Copy)]
 pub struct Job {
     pub task: u32,
     pub arrival: u32,

@@ -1,5 +1,7 @@
 // Document 01, "Tables and lists" and the refusals that task tables, job lists, horizons and schedule lengths meet: what every entry point
 // that is given such lists checks first, and how their numbers are read. Knows no mode and no record.
+#![tactic(auto)]
+
 mod answers;
 mod bytes;
 mod fields;

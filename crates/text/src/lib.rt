@@ -1,6 +1,8 @@
 // Text in bytes: numbers read, and words and numbers written one behind another.
 // Each public function has one answer for every input: where there is no room, a writer stops. `proofs/Promise.antt` says that what is
 // written is read back.
+#![tactic(auto)]
+
 ghost use Rattle.std.specs.Prelude.{◌≡◌, [], ◌∷◌, ◌≤◌, drop, length, get_or};
 ghost use Rattle.text.specs.Decimal.{decimal, decimal_at, number_within, numbers, wide_at};
 ghost use Rattle.text.specs.Wrote.{Put};

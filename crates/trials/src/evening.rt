@@ -13,7 +13,7 @@ use drawn::tally::{DIFFERENCES, Tally, add, count, note, numbers};
 use zsrm::Tie;
 
 // What an evening tries: a flat list of jobs, how many jobs each run has, the horizon, and how many entries are lent.
-#[derive(Drop)]
+#[derive(Clone, Copy)]
 struct Evening {
     jobs: List,
     counts: List,
@@ -139,7 +139,7 @@ fn list_at<'a>(jobs: &'a [u32], counts: &[u32], r: usize) -> &'a [u32] {
 }
 
 // What must be found, as an answer, and of which run.
-#[derive(Drop)]
+#[derive(Clone, Copy)]
 struct Fault {
     answer: u64,
     run: u32,

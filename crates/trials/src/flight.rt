@@ -64,7 +64,7 @@ fn stretch_end(line: &[u16], from: u32, horizon: u32) -> u32 {
 }
 
 // A claimed schedule up to an instant; bad is one more than the tick that is not legal, or 0.
-#[derive(Drop)]
+#[derive(Clone, Copy)]
 pub(crate) struct Replay {
     pub bad: u32,
     pub end: Sim,

@@ -16,7 +16,7 @@ pub(crate) const MENDING: u32 = 3;
 // where there is no such job. A turn is an instant at which the job that ran finished or, in SE, reached C; cut has a bit for each job
 // that the tick before ended, and ran is the job of that tick, 64 for none. Of its time a job has been held so many ticks below the bar,
 // and has waited so many for others that ran.
-#[derive(Drop)]
+#[derive(Clone, Copy)]
 pub(crate) struct Sim {
     pub now: u32,
     pub turn: bool,
@@ -83,7 +83,7 @@ fn stands(tasks: &[u32], jobs: &[u32], j: usize, fate: u32, now: u32, bar: u64) 
 
 // The jobs that may run: the first and the last of the highest priority, 64 for none, that priority, and all their priorities as bits,
 // with how many they are.
-#[derive(Drop)]
+#[derive(Clone, Copy)]
 pub(crate) struct Ready {
     pub first: usize,
     pub last: usize,

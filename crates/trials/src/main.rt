@@ -1,5 +1,7 @@
 // Tries the library against a simulator of another kind, on random lists, damaged lists and altered records from a fixed seed. It writes
 // for each group how often each call gave each answer; a difference is written with its whole input.
+#![tactic(auto)]
+
 mod altered;
 mod answers;
 mod claims;

@@ -46,7 +46,7 @@ fn bounded(tasks: &[u32], bar: u32, most: u32) -> List {
 }
 
 // A list with some of the others' jobs left out, and for each job of the whole list its number there, 64 for one that is left out.
-#[derive(Drop)]
+#[derive(Clone, Copy)]
 struct Fewer {
     jobs: List,
     number: [u32; 64],
@@ -83,7 +83,7 @@ fn same_ticks(a: &Line, i: u16, b: &Line, j: u16, ticks: u32) -> bool {
 }
 
 // A list, and the outcome and the record of its run.
-#[derive(Drop)]
+#[derive(Clone, Copy)]
 struct Side {
     jobs: List,
     outcome: u64,

@@ -1,7 +1,7 @@
 // What judging a task's windows answers.
 
 // The answer about all windows of a task.
-#[derive(Drop)]
+#[derive(Clone, Copy)]
 pub enum Windows {
     Refused(u32, u32),
     // how many of the task's jobs are open

@@ -11,7 +11,7 @@ use tables::{job_at, job_count};
 use zsrm::{Verdict, Verdicts};
 
 // How many jobs there are, the number in the list of each, how many of the first i missed, and how many are open.
-#[derive(Drop)]
+#[derive(Clone, Copy)]
 pub(crate) struct Gathered {
     pub count: usize,
     pub numbers: [u32; 64],

@@ -1,5 +1,7 @@
 // Request Twelve, deadline misses over a window: by the (m, K) notion, whether every K consecutive jobs of one task contain at most m misses.
 // The verdicts are the library's own, asked once.
+#![tactic(auto)]
+
 ghost use Rattle.std.specs.Prelude.{◌≡◌};
 ghost use Rattle.zsrm.specs.Given.{given};
 ghost use Rattle.window.specs.Answers.{judge_answer};

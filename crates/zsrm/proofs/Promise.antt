@@ -17,20 +17,20 @@
 pub mod Refusals
 pub mod Rules
 pub mod Guarantee
-pub use Refusals.{fresh-checked, step-checked, go-on-checked, run-outcome-checked, verdicts-checked, claim-refused, mend-refused}
-pub use Refusals.{verdict-refused, witness-refused, verdicts-refused, response-refused, response-illegal, response-unfinished}
-pub use Refusals.{fresh-refused, fresh-done, refused-keeps, refused-go-on-keeps, mend-refused-as-claim, mend-refused-second}
-pub use Refusals.{refused-mend-keeps, refused-step, c-refused, c-refused-keeps}
-pub use Rules.{step-is-tick, run-is-legal, run-record, run-consistent, run-is-steps, run-each-step, replay-run, ties-agree, step_keeps}
-pub use Rules.{stays, switches, switches-next, go-on-exactly, go-on-past-limit, go-on-never-nine, go-on-nothing, parts-exactly}
-pub use Rules.{parts-agree, go-on-record, go-on-one-tick, go-on-one-entry, run-is-go-on, run-past-limit, run-goes-on-alike}
-pub use Rules.{legal-go-on-done, legal-go-on-record, stay-goes-on-legally, legal-exactly, not-legal-exactly, replay-claim}
-pub use Rules.{replay-legal, replay-blank, mended-is-legal, whole-exactly, whole-comes-back, changed-exactly, changed-first}
-pub use Rules.{changed_then, mends-once, witness-exactly, witness-ended-exactly, witness-outside-exactly, witness-not-missed-exactly}
-pub use Rules.{witness-not-legal-exactly, met-exactly, late-exactly, late-at-least, ended-exactly, open-exactly, late-response}
-pub use Rules.{late-finishes, late-grows, verdict-final, verdicts-each, ended-by-overrun, within-unended, ended-outside}
-pub use Rules.{never-accepted-ended, consistent-unended-in-S, verdict-unended-in-S, step-ends-none-in-S, c-run-done, c-run-exactly}
-pub use Rules.{c-legal-exactly, c-not-legal-exactly, c-run-is-legal, c-run-is-run, c-claim-is-claim}
-pub use Guarantee.{always-consistent, nothing-ended-in-S, nothing-ended-in-S-at-end, empty-job-finishes, Pending, Served, served}
-pub use Guarantee.{finishes-by, meets, never-blamed, never-suspended, never-suspended-at-end, response-is, done-before, suspended-before}
-pub use Guarantee.{ended-before, waited-before, done-counted, suspended-counted, ended-counted, waited-counted, open-jobs-last, part-shown}
+pub use Refusals.{fresh_checked, step_checked, go_on_checked, run_outcome_checked, verdicts_checked, claim_refused, mend_refused}
+pub use Refusals.{verdict_refused, witness_refused, verdicts_refused, response_refused, response_illegal, response_unfinished}
+pub use Refusals.{fresh_refused, fresh_done, refused_keeps, refused_go_on_keeps, mend_refused_as_claim, mend_refused_second}
+pub use Refusals.{refused_mend_keeps, refused_step_law, c_refused, c_refused_keeps}
+pub use Rules.{step_is_tick, run_is_legal, run_record_law, run_consistent, run_is_steps, run_each_step, replay_run, ties_agree, step_keeps}
+pub use Rules.{stays, switches, switches_next, go_on_exactly, go_on_past_limit, go_on_never_nine, go_on_nothing, parts_exactly}
+pub use Rules.{parts_agree, go_on_record, go_on_one_tick, go_on_one_entry, run_is_go_on, run_past_limit, run_goes_on_alike}
+pub use Rules.{legal_go_on_done, legal_go_on_record, stay_goes_on_legally, legal_exactly, not_legal_exactly, replay_claim}
+pub use Rules.{replay_legal, replay_blank, mended_is_legal, whole_exactly, whole_comes_back, changed_exactly, changed_first}
+pub use Rules.{changed_then, mends_once, witness_exactly, witness_ended_exactly, witness_outside_exactly, witness_not_missed_exactly}
+pub use Rules.{witness_not_legal_exactly, met_exactly, late_exactly, late_at_least, ended_exactly, open_exactly, late_response}
+pub use Rules.{late_finishes, late_grows, verdict_final, verdicts_each, ended_by_overrun, within_unended, ended_outside}
+pub use Rules.{never_accepted_ended, consistent_unended_in_s, verdict_unended_in_s, step_ends_none_in_s, c_run_done, c_run_exactly}
+pub use Rules.{c_legal_exactly, c_not_legal_exactly, c_run_is_legal, c_run_is_run, c_claim_is_claim}
+pub use Guarantee.{always_consistent, nothing_ended_in_s, nothing_ended_in_s_at_end, empty_job_finishes, Pending, Served, served}
+pub use Guarantee.{finishes_by, meets, never_blamed, never_suspended, never_suspended_at_end, response_is, done_before, suspended_before}
+pub use Guarantee.{ended_before, waited_before, done_counted, suspended_counted, ended_counted, waited_counted, open_jobs_last, part_shown}

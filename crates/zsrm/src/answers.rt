@@ -6,7 +6,7 @@ use crate::record::Record;
 use tables::Outcome;
 
 // The answer of a fresh record, of a run, and of going on.
-#[derive(Drop)]
+#[derive(Clone, Copy)]
 pub struct Ran {
     pub outcome: Outcome,
     pub record: Record,
@@ -32,7 +32,7 @@ pub(crate) fn or_blank(outcome: Outcome, made: Record) -> Ran
 }
 
 // The answer of a step: the record advanced by one tick, and what the tick did.
-#[derive(Drop)]
+#[derive(Clone, Copy)]
 pub struct Stepped {
     pub outcome: Outcome,
     pub record: Record,
@@ -43,7 +43,7 @@ pub struct Stepped {
 }
 
 // The answer to a claimed schedule; not legal at the tick named.
-#[derive(Drop)]
+#[derive(Clone, Copy)]
 pub enum Claim {
     Refused(u32, u32),
     Legal,
@@ -51,14 +51,14 @@ pub enum Claim {
 }
 
 // The answer to a schedule that is replayed: the claim check's own, and the record at its end where it is legal, else the blank one.
-#[derive(Drop)]
+#[derive(Clone, Copy)]
 pub struct Replayed {
     pub claim: Claim,
     pub record: Record,
 }
 
 // The answer to a claim that is mended: a legal one comes back whole; else the first changed tick, and how many entries differ.
-#[derive(Drop)]
+#[derive(Clone, Copy)]
 pub enum Mended {
     Refused(u32, u32),
     Whole,
@@ -66,7 +66,7 @@ pub enum Mended {
 }
 
 // The verdict on one job.
-#[derive(Drop)]
+#[derive(Clone, Copy)]
 pub enum Verdict {
     Refused(u32, u32),
     Met,
@@ -77,21 +77,21 @@ pub enum Verdict {
 }
 
 // One of all verdicts.
-#[derive(Drop)]
+#[derive(Clone, Copy)]
 pub struct Judged {
     pub verdict: Verdict,
 }
 
 // The verdicts on all jobs, by their numbers; a number that is no job's is refused. The outcome is what the lists and the record are refused
 // with, and then every verdict is.
-#[derive(Drop)]
+#[derive(Clone, Copy)]
 pub struct Verdicts {
     pub outcome: Outcome,
     pub of: [Judged; 64],
 }
 
 // The answer to a miss witness.
-#[derive(Drop)]
+#[derive(Clone, Copy)]
 pub enum Witness {
     Refused(u32, u32),
     NotLegal(u32),

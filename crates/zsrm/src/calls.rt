@@ -61,7 +61,7 @@ fn left_by(
 }
 
 // How many ticks the entry runs, and who is alive behind them.
-#[derive(Drop)]
+#[derive(Clone, Copy)]
 pub(crate) struct Stretch {
     pub ticks: u32,
     pub alive: u64,

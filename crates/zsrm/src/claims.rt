@@ -87,7 +87,7 @@ fn repeats(schedule: &[u16], t: usize, most: u32, entry: u16) -> u32
 }
 
 // How many entries of a schedule are legal, up to the first that is not, and the record there.
-#[derive(Drop)]
+#[derive(Clone, Copy)]
 pub(crate) struct Walked {
     pub ticks: u32,
     pub record: Record,

@@ -9,7 +9,7 @@ use crate::gap::slack_gap;
 use crate::gather::{arrival_in, execution_in, slack_in};
 
 // The jobs alive, those whose zero-slack instant may lie ahead, how many came, and an instant none of theirs is before.
-#[derive(Drop)]
+#[derive(Clone, Copy)]
 pub(crate) struct Going {
     pub alive: u64,
     pub early: u64,

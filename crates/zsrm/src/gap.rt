@@ -49,7 +49,7 @@ pub(crate) fn run_gap(se: bool, entry: u16, done: u16, most: u32, n: usize, g: &
 }
 
 // How many ticks nothing happens, and the jobs that have come and whose zero-slack instant lies ahead.
-#[derive(Drop)]
+#[derive(Clone, Copy)]
 pub(crate) struct Ahead {
     pub ticks: u32,
     pub early: u64,

@@ -12,7 +12,7 @@ use crate::record::{Record, Standing};
 
 // The record of a run underway, and what is kept beside it: the jobs alive, how many have come, and a set in which are all that have come
 // and whose zero-slack instant lies ahead.
-#[derive(Drop)]
+#[derive(Clone, Copy)]
 pub(crate) struct Underway {
     pub record: Record,
     pub alive: u64,

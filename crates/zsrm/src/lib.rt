@@ -1,5 +1,7 @@
 // A ZSRM schedule on one processor in whole ticks: stepped, run, checked, judged. Every rule is document 01's and stands, as a
 // definition, in specs/; the theorems about them stand in proofs/, Promise first.
+#![tactic(auto)]
+
 mod answers;
 mod bytes;
 mod c;

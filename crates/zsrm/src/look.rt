@@ -12,7 +12,7 @@ use crate::tie::{Tie, is_stay};
 use tables::{Criticality, IDLE, Priority};
 
 // The jobs alive, past zero slack, suspended and eligible, and the ready word: bit p for priority p.
-#[derive(Drop)]
+#[derive(Clone, Copy)]
 pub(crate) struct View {
     pub alive: u64,
     pub past: u64,
@@ -33,7 +33,7 @@ pub(crate) fn greater_if(counts: bool, its: Criticality, most: Criticality) -> C
 }
 
 // The jobs of a set that are past zero slack, and the greatest criticality among them, 0 where there is none.
-#[derive(Drop)]
+#[derive(Clone, Copy)]
 struct Past {
     jobs: u64,
     most: Criticality,
@@ -58,7 +58,7 @@ fn past_of(among: u64, t: u32, g: &[u16]) -> Past
 }
 
 // The jobs of a set that are less critical than c, and the priorities of the others.
-#[derive(Drop)]
+#[derive(Clone, Copy)]
 struct Held {
     jobs: u64,
     ready: u64,

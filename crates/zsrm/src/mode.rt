@@ -2,7 +2,7 @@
 ghost use Rattle.std.specs.Prelude.{◌≡◌};
 ghost use Rattle.zsrm.specs.Given.{is_se};
 
-#[derive(Drop)]
+#[derive(Clone, Copy)]
 pub enum Mode {
     S,
     SE,

@@ -8,7 +8,7 @@ use crate::gather::{arrival_in, execution_in};
 use crate::record::{Place, Record, Standing, opening};
 
 // What a tick does to the jobs: the entry that runs, and as words those suspended, those eligible while another job runs, and those ended.
-#[derive(Drop)]
+#[derive(Clone, Copy)]
 pub(crate) struct Ticked {
     pub entry: u16,
     pub suspended: u64,

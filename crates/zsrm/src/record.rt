@@ -9,7 +9,7 @@ ghost use Rattle.zsrm.specs.Code.Next.{opening_of};
 use crate::mode::{Mode, is_se};
 use tables::{IDLE, Outcome, job_at, job_count, refuse};
 
-#[derive(Drop)]
+#[derive(Clone, Copy)]
 pub enum Standing {
     NotArrived,
     Unfinished,
@@ -19,7 +19,7 @@ pub enum Standing {
     Ended(u16),
 }
 
-#[derive(Drop)]
+#[derive(Clone, Copy)]
 pub struct Place {
     pub done: u16,
     // ticks suspended while alive
@@ -29,7 +29,7 @@ pub struct Place {
     pub standing: Standing,
 }
 
-#[derive(Drop)]
+#[derive(Clone, Copy)]
 pub struct Record {
     pub tick: u32,
     // the entry of the tick before; idle at tick 0

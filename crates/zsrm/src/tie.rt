@@ -2,7 +2,7 @@
 ghost use Rattle.std.specs.Prelude.{◌≡◌};
 ghost use Rattle.zsrm.specs.Tick.{is_stay};
 
-#[derive(Drop)]
+#[derive(Clone, Copy)]
 pub enum Tie {
     // the job of the previous tick if it is still a candidate, else the lowest number
     Stay,
