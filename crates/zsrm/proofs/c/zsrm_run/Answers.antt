@@ -15,7 +15,9 @@ pub packed-requires : goal.packed-requires
 packed-requires c = let w = (let lemma_refusal : let a = c.args in RefusedCall a.mode a.tasks.now a.jobs.now a.horizon a.schedule.now c.in-Refused.number c.in-Refused.place = stopped _ _ _ _ _ _ _ (sym c.prepare-found.ensures.found ∙ c.in-Refused.is) in lemma_refusal) in (w.small.1, w.small.2)
 
 pub returns-in-Done : goal.returns-in-Done
-returns-in-Done c = c_runs _ _ _ _ _ ((let lemma_checked : let a = c.args in Passed a.mode a.tasks.now a.jobs.now a.horizon (length a.schedule.now) = call_passed _ _ _ _ _ (sym c.prepare-found.ensures.found ∙ c.in-Done.is) in lemma_checked)) _ c.run_bytes.ensures
+returns-in-Done c =
+    let both = c_runs _ _ _ _ _ ((let lemma_checked : let a = c.args in Passed a.mode a.tasks.now a.jobs.now a.horizon (length a.schedule.now) = call_passed _ _ _ _ _ (sym c.prepare-found.ensures.found ∙ c.in-Done.is) in lemma_checked)) _ c.run_bytes.ensures in
+    record { answers = both.0; writes = both.1 }
 
 pub returns-in-Refused : goal.returns-in-Refused
 returns-in-Refused c = let w = (let lemma_refusal : let a = c.args in RefusedCall a.mode a.tasks.now a.jobs.now a.horizon a.schedule.now c.in-Refused.number c.in-Refused.place = stopped _ _ _ _ _ _ _ (sym c.prepare-found.ensures.found ∙ c.in-Refused.is) in lemma_refusal) in record { answers = c.packed.ensures ∙ w.run; writes = w.kept }

@@ -52,8 +52,8 @@ pub leap-next-requires : goal.leap-next-requires
 leap-next-requires c =
     let w = c.loop-t.invariant in
     let room = walk_room _ _ _ _ ((let lemma_setup : let a = c.args in Setup (given a.mode a.tasks.now a.jobs.now) c.gathered-g.result c.job_count-n.result c.is_se-se.result = made_setup _ _ _ _ c.requires.0 c.gathered-g.ensures c.job_count-n.ensures c.is_se-se.ensures in lemma_setup)) c.loop-t.s w.4 _ c.look-seen.ensures _ w.1 c.loop-t.t w.2 w.3 c.loop-t-test.true _ refl
-    ((let lemma_may : let a = c.args in candidate_or_idle (given a.mode a.tasks.now a.jobs.now) c.loop-t.s.«record» (get_or a.schedule.now c.loop-t.t 0) ≡ true = let w = c.loop-t.invariant in sym (turn_may _ _ _ _ ((let lemma_setup : let a = c.args in Setup (given a.mode a.tasks.now a.jobs.now) c.gathered-g.result c.job_count-n.result c.is_se-se.result = made_setup _ _ _ _ c.requires.0 c.gathered-g.ensures c.job_count-n.ensures c.is_se-se.ensures in lemma_setup)) c.loop-t.s w.4 _ c.look-seen.ensures _ _ c.is_top_or_idle.ensures) ∙ c.if-is_top_or_idle.true in lemma_may)) _ c.ahead-far.ensures.ticks _ c.repeats-k.ensures in
-    turn_fits _ _ _ _ ((let lemma_setup : let a = c.args in Setup (given a.mode a.tasks.now a.jobs.now) c.gathered-g.result c.job_count-n.result c.is_se-se.result = made_setup _ _ _ _ c.requires.0 c.gathered-g.ensures c.job_count-n.ensures c.is_se-se.ensures in lemma_setup)) c.loop-t.s w.4 _ c.look-seen.ensures w.2.sound _ ((let lemma_may : let a = c.args in candidate_or_idle (given a.mode a.tasks.now a.jobs.now) c.loop-t.s.«record» (get_or a.schedule.now c.loop-t.t 0) ≡ true = let w = c.loop-t.invariant in sym (turn_may _ _ _ _ ((let lemma_setup : let a = c.args in Setup (given a.mode a.tasks.now a.jobs.now) c.gathered-g.result c.job_count-n.result c.is_se-se.result = made_setup _ _ _ _ c.requires.0 c.gathered-g.ensures c.job_count-n.ensures c.is_se-se.ensures in lemma_setup)) c.loop-t.s w.4 _ c.look-seen.ensures _ _ c.is_top_or_idle.ensures) ∙ c.if-is_top_or_idle.true in lemma_may)) _ room
+    ((let lemma_may : let a = c.args in candidate_or_idle (given a.mode a.tasks.now a.jobs.now) c.loop-t.s.«record» (get_or a.schedule.now c.loop-t.t 0) ≡ true = let w = c.loop-t.invariant in sym (turn_may _ _ _ _ ((let lemma_setup : let a = c.args in Setup (given a.mode a.tasks.now a.jobs.now) c.gathered-g.result c.job_count-n.result c.is_se-se.result = made_setup _ _ _ _ c.requires.0 c.gathered-g.ensures c.job_count-n.ensures c.is_se-se.ensures in lemma_setup)) c.loop-t.s w.4 _ c.look-seen.ensures _ _ c.is_top_or_idle.ensures) ∙ c.if-is_top_or_idle.true in lemma_may)) _ c.ahead-far.ensures.ticks _ c.repeats-k.ensures in let both = turn_fits _ _ _ _ ((let lemma_setup : let a = c.args in Setup (given a.mode a.tasks.now a.jobs.now) c.gathered-g.result c.job_count-n.result c.is_se-se.result = made_setup _ _ _ _ c.requires.0 c.gathered-g.ensures c.job_count-n.ensures c.is_se-se.ensures in lemma_setup)) c.loop-t.s w.4 _ c.look-seen.ensures w.2.sound _ ((let lemma_may : let a = c.args in candidate_or_idle (given a.mode a.tasks.now a.jobs.now) c.loop-t.s.«record» (get_or a.schedule.now c.loop-t.t 0) ≡ true = let w = c.loop-t.invariant in sym (turn_may _ _ _ _ ((let lemma_setup : let a = c.args in Setup (given a.mode a.tasks.now a.jobs.now) c.gathered-g.result c.job_count-n.result c.is_se-se.result = made_setup _ _ _ _ c.requires.0 c.gathered-g.ensures c.job_count-n.ensures c.is_se-se.ensures in lemma_setup)) c.loop-t.s w.4 _ c.look-seen.ensures _ _ c.is_top_or_idle.ensures) ∙ c.if-is_top_or_idle.true in lemma_may)) _ room in
+    record { n_bound = both.0; k_bound = both.1 }
 
 pub overflow_add-t : goal.overflow_add-t
 overflow_add-t c = let room = ((let lemma_turn : let a = c.args in Walks (given a.mode a.tasks.now a.jobs.now) a.schedule.now c.loop-t.t c.ahead-far.result.ticks c.repeats-k.result c.leap-next.result = let w = c.loop-t.invariant in walk_turns _ _ _ _ ((let lemma_setup : let a = c.args in Setup (given a.mode a.tasks.now a.jobs.now) c.gathered-g.result c.job_count-n.result c.is_se-se.result = made_setup _ _ _ _ c.requires.0 c.gathered-g.ensures c.job_count-n.ensures c.is_se-se.ensures in lemma_setup)) c.loop-t.s w.4 _ c.look-seen.ensures _ w.1 c.loop-t.t w.2 w.3 c.loop-t-test.true _ refl ((let lemma_may : let a = c.args in candidate_or_idle (given a.mode a.tasks.now a.jobs.now) c.loop-t.s.«record» (get_or a.schedule.now c.loop-t.t 0) ≡ true = let w = c.loop-t.invariant in sym (turn_may _ _ _ _ ((let lemma_setup : let a = c.args in Setup (given a.mode a.tasks.now a.jobs.now) c.gathered-g.result c.job_count-n.result c.is_se-se.result = made_setup _ _ _ _ c.requires.0 c.gathered-g.ensures c.job_count-n.ensures c.is_se-se.ensures in lemma_setup)) c.loop-t.s w.4 _ c.look-seen.ensures _ _ c.is_top_or_idle.ensures) ∙ c.if-is_top_or_idle.true in lemma_may)) _ c.ahead-far.ensures.ticks _ c.repeats-k.ensures _ c.ahead-far.ensures.early _ c.leap-next.ensures in lemma_turn)).room in search rules

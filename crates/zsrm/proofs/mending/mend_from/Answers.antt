@@ -82,7 +82,9 @@ pub slice_bounds-leap-end : goal.slice_bounds-leap-end
 slice_bounds-leap-end c = let size = ((let lemma_few : (c.job_count-n.result ≤ 64) × (length c.gathered-g.result ≡ 320) = (omega (arith, c.job_count-n.ensures, lists_few _ c.requires.jobs_value.0), c.gathered-g.ensures.size) in lemma_few)).1 in search rules
 
 pub leap-next-requires : goal.leap-next-requires
-leap-next-requires c = stretch_fits _ _ _ _ _ _ _ _ _ _ _ ((let lemma_turn : Stretch (given c.args.mode c.args.tasks.now c.args.jobs.now) c.started-s.result.«record» c.loop-t.t c.gathered-g.result c.job_count-n.result c.is_se-se.result c.loop-t.s c.look-seen.result c.kept_or-chosen.result (length c.loop-t.into - c.loop-t.t) c.ahead-far.result.ticks = let began = started_record _ _ c.args.start _ c.started-s.ensures in let z = made_setup (given c.args.mode c.args.tasks.now c.args.jobs.now) _ _ _ c.requires.jobs_value.0 c.gathered-g.ensures c.job_count-n.ensures c.is_se-se.ensures in let more : c.loop-t.t < length c.loop-t.into = c.loop-t-test.true in made_stretch (given c.args.mode c.args.tasks.now c.args.jobs.now) _ _ _ _ _ c.loop-t.s _ _ _ _ z (subst (Mendable (given c.args.mode c.args.tasks.now c.args.jobs.now)) (sym began) c.requires.mendable.0) c.loop-t.invariant.3 c.loop-t.invariant.2 c.look-seen.ensures _ c.choice-lowest.ensures _ (c.loop-t.invariant.6 (omega (arith, more, c.loop-t.invariant.1))) c.kept_or-chosen.ensures (omega (arith, more)) (omega (arith, more, c.loop-t.invariant.1, ap (λ (r : Record). r.tick) began, c.requires.mendable.1)) c.ahead-far.ensures.ticks in lemma_turn))
+leap-next-requires c =
+    let both = stretch_fits _ _ _ _ _ _ _ _ _ _ _ ((let lemma_turn : Stretch (given c.args.mode c.args.tasks.now c.args.jobs.now) c.started-s.result.«record» c.loop-t.t c.gathered-g.result c.job_count-n.result c.is_se-se.result c.loop-t.s c.look-seen.result c.kept_or-chosen.result (length c.loop-t.into - c.loop-t.t) c.ahead-far.result.ticks = let began = started_record _ _ c.args.start _ c.started-s.ensures in let z = made_setup (given c.args.mode c.args.tasks.now c.args.jobs.now) _ _ _ c.requires.jobs_value.0 c.gathered-g.ensures c.job_count-n.ensures c.is_se-se.ensures in let more : c.loop-t.t < length c.loop-t.into = c.loop-t-test.true in made_stretch (given c.args.mode c.args.tasks.now c.args.jobs.now) _ _ _ _ _ c.loop-t.s _ _ _ _ z (subst (Mendable (given c.args.mode c.args.tasks.now c.args.jobs.now)) (sym began) c.requires.mendable.0) c.loop-t.invariant.3 c.loop-t.invariant.2 c.look-seen.ensures _ c.choice-lowest.ensures _ (c.loop-t.invariant.6 (omega (arith, more, c.loop-t.invariant.1))) c.kept_or-chosen.ensures (omega (arith, more)) (omega (arith, more, c.loop-t.invariant.1, ap (λ (r : Record). r.tick) began, c.requires.mendable.1)) c.ahead-far.ensures.ticks in lemma_turn)) in
+    record { n_bound = both.0; k_bound = both.1 }
 
 pub overflow_add-changed : goal.overflow_add-changed
 overflow_add-changed c =

@@ -39,6 +39,6 @@ mend_from-requires c =
 pub returns : goal.returns
 returns c =
     let a = c.args in
-    let long = c.copy.ensures.long ∙ c.requires.schedule_len_bound.1 in
-    mended_made (given a.mode a.tasks.now a.jobs.now) a.schedule.now a.walked c.requires.jobs_value.1 c.copy.new.to long _ _
-    c.copy.ensures.copies c.mend_from.ensures.counts c.mend_from.ensures.writes
+    let long = c.copy.ensures.long ∙ c.requires.schedule_len_bound.1 in let both = mended_made (given a.mode a.tasks.now a.jobs.now) a.schedule.now a.walked c.requires.jobs_value.1 c.copy.new.to long _ _
+    c.copy.ensures.copies c.mend_from.ensures.counts c.mend_from.ensures.writes in
+    record { counts = both.0; writes = both.1 }
