@@ -73,7 +73,7 @@ class Turn:
             out, i, step = [parts[0]], 1, ""
             while i < len(parts):
                 p = parts[i]
-                low = norm(p).replace("-law", "")
+                low = norm(p).replace("-law", "").replace("-lem", "")
                 if low not in self.fields:
                     low = low.lower()
                 if i == 1 and parts[0] == root:
@@ -101,8 +101,13 @@ class Turn:
                         p = "false"
                     elif p in self.inner.get(step, {}):
                         p = self.inner[step][p]
-                    elif step == "requires" and p.isdigit() and len(self.own()[0]) > 1 and int(p) < len(self.own()[0]):
-                        p = self.own()[0][int(p)]
+                    elif step == "requires" and p.isdigit() and len(self.own()[0]) > 1:
+                        names, k = self.own()[0], 0
+                        while k + 2 < len(names) and p == "1" and i + 1 < len(parts) and parts[i + 1].isdigit():
+                            k, i = k + 1, i + 1
+                            p = parts[i]
+                        if k + int(p) < len(names):
+                            p = names[k + int(p)]
                 elif i == 3 and parts[0] == root and parts[2] == "ensures" and p.isdigit():
                     names = self.called(step)[1]
                     k = 0
@@ -253,8 +258,8 @@ class Turn:
             s = items[name]["sig"]
             m = re.match(r"(?:abbrev )?" + re.escape(name) + r" :\s*\(([^\s:]+) : ([^()]*(?:\([^()]*\))?[^()]*)\)\s*→(.*)$", s, re.S)
             if m and ("tie." in m[2] or (m[2].strip() in items and "domain" in "".join(items[m[2].strip()]["defs"]))):
-                dm = re.match(re.escape(name) + r"\s+(\S+)\s*=(.*)$", items[name]["defs"][0], re.S)
-                about[name] = (m[1], m[3].strip(), dm[1], dm[2].strip())
+                dm = re.match(re.escape(name) + r"\s+(\S+)((?:\s+[^\s=]+)*)\s*=(.*)$", items[name]["defs"][0], re.S)
+                about[name] = (m[1], m[3].strip(), dm[1], (f"λ{dm[2]}. " if dm[2].strip() else "") + dm[3].strip())
         places = {n for n in order if "domain" in "".join(items[n]["defs"]) or n == "domain"}
 
         def replaced(text, var, by):
@@ -292,7 +297,7 @@ class Turn:
                     raise ValueError("form of argument " + arg)
                 vs, b, unf, com = m[1].split(), m[2], specunf, []
             b = b.strip()
-            if re.sub(r"\s+", " ", b) in TRIVIAL and (not unf or not need.startswith(("returns", "loop"))):
+            if re.sub(r"\s+", " ", b) in TRIVIAL and (not unf or "search" in b and not need.startswith(("returns", "loop"))):
                 continue
             var = vs[0] if vs else "c"
             more = [v for v in vs[1:] if v != "κs"]
