@@ -9,12 +9,14 @@ use Rattle.index.proofs.ends.between_ends.Goals as goal
 pub end_at-first-requires : goal.end_at-first-requires
 end_at-first-requires c =
     let a = c.args in
-    asked_end _ a.schedule.now a.index.now a.task a.a a.b c.requires a.a (asked_range _ _ _ a.task a.a a.b c.requires).0
+    let fits = asked_end _ a.schedule.now a.index.now a.task a.a a.b c.requires a.a (asked_range _ _ _ a.task a.a a.b c.requires).0 in
+    record { tasks_bound = fits.0; row_bound = fits.1.0; c_in_bounds = fits.1.1 }
 
 pub end_at-second-requires : goal.end_at-second-requires
 end_at-second-requires c =
     let a = c.args in
-    asked_end _ a.schedule.now a.index.now a.task a.a a.b c.requires a.b (omega arith)
+    let fits = asked_end _ a.schedule.now a.index.now a.task a.a a.b c.requires a.b (omega arith) in
+    record { tasks_bound = fits.0; row_bound = fits.1.0; c_in_bounds = fits.1.1 }
 
 pub returns : goal.returns
 returns c =
