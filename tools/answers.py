@@ -249,6 +249,15 @@ class Turn:
         while ninv < len(args) and args[ninv] in items and re.search(r": tie\.(invariant|decreases)", items[args[ninv]]["sig"]):
             ninv += 1
         needs = [n for _, n in d["needs"]]
+        if len(args) - ninv > len(needs):  # some goals are asked no longer: by name, else from the end
+            kept = ["(λ c. search rules)"] * len(needs)
+            for back, arg in enumerate(reversed(args[ninv:])):
+                m = arg in items and re.search(r": tie\.Need-(\S+)", items[arg]["sig"])
+                if m and self.needs.get(norm(m[1])) in needs:
+                    kept[needs.index(self.needs[norm(m[1])])] = arg
+                elif back < len(needs) and arg not in items:
+                    kept[len(needs) - 1 - back] = arg
+            args = args[:ninv] + kept
         if len(args) - ninv != len(needs):
             raise ValueError(f"{len(args) - ninv} answers for {len(needs)} goals: {needs}")
 
