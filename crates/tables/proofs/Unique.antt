@@ -2,9 +2,9 @@
 -- the result and the parameters at exit. No other function is lent a list to be written.
 use Prim.Native.Nat.{◌*◌, ◌+◌, ℕ}
 use mathlib.Core.List.{◌++◌, List, [], ◌∷◌}
-use mathlib.Core.Path.{ap, refl, sym, ◌∙◌, ◌≡◌}
+use mathlib.Core.Path.{ap, sym, ◌∙◌, ◌≡◌}
 use native.Mathlib.Omega.{arith}
-use lib.ListN.{get_or, length, length-replicate, replicate}
+use lib.ListN.{get_or, length-replicate, replicate}
 use lib.Seq.{get_or-append-add}
 use contract.Lifetimes.{Lfts}
 use Rattle.tables.specs.declared.fields.Criticality.{Criticality}

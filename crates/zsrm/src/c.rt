@@ -1,5 +1,5 @@
-// The calls from C: numbers and byte slices in, one number out. The lists are checked and read as they lie in their bytes; the schedule's
-// bytes are written and read from instant to instant.
+// The calls from C, which the crate zsrm_c exports: numbers and byte slices in, one number out. The lists are checked and read as they lie
+// in their bytes; the schedule's bytes are written and read from instant to instant.
 ghost use Rattle.std.specs.Prelude.{◌≡◌, ◌+◌, ◌*◌, ◌≤◌};
 ghost use Rattle.zsrm.specs.Bytes.{run_result, run_bytes, claim_result};
 
@@ -17,14 +17,7 @@ fn packed(number: u32, place: u32) -> u32
 }
 
 // Our run, from C: 0 for done, or a refusal's number plus 256 times its place, the schedule's bytes then being as they were.
-#[unsafe(no_mangle)]
-pub extern "C" fn zsrm_run(
-    mode: u32,
-    tasks: &[u8],
-    jobs: &[u8],
-    horizon: u32,
-    schedule: &mut [u8],
-) -> u32
+pub fn zsrm_run(mode: u32, tasks: &[u8], jobs: &[u8], horizon: u32, schedule: &mut [u8]) -> u32
     ensures answers { result ≡ run_result mode tasks.now jobs.now horizon schedule.old }
     ensures writes { schedule.new ≡ run_bytes mode tasks.now jobs.now horizon schedule.old }
 {
@@ -49,14 +42,7 @@ pub extern "C" fn zsrm_run(
 }
 
 // A claimed schedule, from C: 0 for legal, 65,536 plus t for not legal at t, a refusal as above.
-#[unsafe(no_mangle)]
-pub extern "C" fn zsrm_claim(
-    mode: u32,
-    tasks: &[u8],
-    jobs: &[u8],
-    horizon: u32,
-    schedule: &[u8],
-) -> u32
+pub fn zsrm_claim(mode: u32, tasks: &[u8], jobs: &[u8], horizon: u32, schedule: &[u8]) -> u32
     ensures { result ≡ claim_result mode tasks.now jobs.now horizon schedule.now }
 {
     let mut g = [0u16; 320];

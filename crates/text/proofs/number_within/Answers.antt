@@ -3,7 +3,7 @@ use mathlib.Core.Bool.{false}
 use native.Mathlib.Omega.{arith}
 use lib.ListN.{get_or}
 use borrow.Author.Rules.{rules}
-use borrow.Author.Tests.{leb-true, leb-false}
+use borrow.Author.Tests.{leb-true}
 use Rattle.text.specs.Decimal.{is_digit}
 use Rattle.text.proofs.Laws.Reading.{digit_low, digit_high, in_range, read_none, read_small, read_more, read_long, read_large, read_end, read_nothing}
 use Rattle.text.proofs.number_within.Goals as goal
@@ -37,20 +37,20 @@ loop-b-preserved c = (read_more c.loop-b.invariant.0 _ (search rules) c.loop-b.i
 pub returns-then-n-lt1 : goal.returns-then-n-lt1
 returns-then-n-lt1 c =
     let stops : is_digit (get_or c.args.text.now c.loop-b.k 256) ≡ false =
-      rw (← c.loop-b.invariant.1)
-      (elim c.loop-b-test.branch [ then-loop-b-test+else-b-le57 w ↦ digit_high _ w.loop-b-test.true w.if-b-le57.false | else-loop-b-test w ↦ digit_low _ w.loop-b-test.false ]) in
+    rw (← c.loop-b.invariant.1)
+    (elim c.loop-b-test.branch [ then-loop-b-test+else-b-le57 w ↦ digit_high _ w.loop-b-test.true w.if-b-le57.false | else-loop-b-test w ↦ digit_low _ w.loop-b-test.false ]) in
     sym (read_nothing c.loop-b.invariant.0 stops (search rules))
 
 pub returns-then-value-gt4294967295 : goal.returns-then-value-gt4294967295
 returns-then-value-gt4294967295 c =
     let stops : is_digit (get_or c.args.text.now c.loop-b.k 256) ≡ false =
-      rw (← c.loop-b.invariant.1)
-      (elim c.loop-b-test.branch [ then-loop-b-test+else-b-le57 w ↦ digit_high _ w.loop-b-test.true w.if-b-le57.false | else-loop-b-test w ↦ digit_low _ w.loop-b-test.false ]) in
+    rw (← c.loop-b.invariant.1)
+    (elim c.loop-b-test.branch [ then-loop-b-test+else-b-le57 w ↦ digit_high _ w.loop-b-test.true w.if-b-le57.false | else-loop-b-test w ↦ digit_low _ w.loop-b-test.false ]) in
     sym (read_large c.loop-b.invariant.0 stops (search rules) (search rules))
 
 pub returns : goal.returns
 returns c =
     let stops : is_digit (get_or c.args.text.now c.loop-b.k 256) ≡ false =
-      rw (← c.loop-b.invariant.1)
-      (elim c.loop-b-test.branch [ then-loop-b-test+else-b-le57 w ↦ digit_high _ w.loop-b-test.true w.if-b-le57.false | else-loop-b-test w ↦ digit_low _ w.loop-b-test.false ]) in
+    rw (← c.loop-b.invariant.1)
+    (elim c.loop-b-test.branch [ then-loop-b-test+else-b-le57 w ↦ digit_high _ w.loop-b-test.true w.if-b-le57.false | else-loop-b-test w ↦ digit_low _ w.loop-b-test.false ]) in
     sym (read_end c.loop-b.invariant.0 stops (search rules) (search rules))

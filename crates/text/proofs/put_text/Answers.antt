@@ -1,4 +1,3 @@
-use Prim.Native.Nat.{◌-◌}
 use borrow.Author.Rules.{rules}
 use lib.Seq.{take_all}
 use Rattle.text.proofs.Laws.Put.{put_length, put_next, put_none}

@@ -1,6 +1,6 @@
 -- Our run for a call from C, turn by turn: what is carried stands for the record that the run has come to, the lowest candidate is its
 -- entry, and a turn writes it as often as nothing happens. From the fresh record the lowest candidate is what Stay takes, too.
-use Prim.Native.Nat.{◌%◌, ◌*◌, ◌+◌, ◌-◌, ◌/◌, ◌<◌, ℕ, ◌≤◌}
+use Prim.Native.Nat.{◌%◌, ◌*◌, ◌+◌, ◌/◌, ◌<◌, ℕ, ◌≤◌}
 use mathlib.Core.Bool.{Bool, false, true}
 use mathlib.Core.List.{List}
 use mathlib.Core.Path.{ap, ap₂, refl, sym, ◌∙◌, ◌≡◌}

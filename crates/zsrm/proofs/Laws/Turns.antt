@@ -32,7 +32,7 @@ use Rattle.zsrm.specs.Legal.{legal_entry}
 use Rattle.zsrm.specs.Mend.{mend_choice}
 use Rattle.zsrm.specs.Record.{consistent, place_at, spent}
 use Rattle.zsrm.specs.Run.{entries_by}
-use Rattle.zsrm.specs.Tick.{advanced, alive, candidate_or_idle, choice, ended_word}
+use Rattle.zsrm.specs.Tick.{advanced, candidate_or_idle, choice, ended_word}
 use Rattle.zsrm.proofs.Laws.Claims.{Replaying}
 use Rattle.zsrm.proofs.Laws.Consistent.{spent_tick}
 use Rattle.zsrm.proofs.Laws.Going.{Going}

@@ -1,4 +1,4 @@
-use Prim.Native.Nat.{◌%◌, ◌-◌}
+use Prim.Native.Nat.{◌%◌}
 use mathlib.Core.Bool.{not}
 use mathlib.Core.Path.{refl}
 use lib.Dec.{eqb}

@@ -1,4 +1,3 @@
-use Prim.Native.Nat.{◌-◌}
 use mathlib.Core.Path.{sym}
 use native.Mathlib.Nat.{le_antisymm}
 use borrow.Author.Rules.{rules}
@@ -21,8 +20,7 @@ unfolding task_count refuse before outside check2 check_tasks
 loop-k-smaller c = search rules
 
 pub loop-k-preserved : goal.loop-k-preserved
-loop-k-preserved c =
-    (
+loop-k-preserved c = (
   search rules,
   search rules,
   rw (ascending_more, c.before-found.ensures, c.check_task.ensures _ c.task_at-task.ensures, c.loop-k.invariant.2),

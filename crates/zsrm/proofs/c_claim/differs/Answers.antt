@@ -1,4 +1,3 @@
-use Prim.Native.Nat.{◌-◌}
 use mathlib.Core.Path.{refl}
 use native.Mathlib.Omega.{arith}
 use Rattle.zsrm.proofs.Laws.Claiming.{entry_read, others_end, others_more, others_none}

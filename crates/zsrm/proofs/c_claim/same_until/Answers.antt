@@ -1,5 +1,3 @@
-use Prim.Native.Nat.{◌-◌}
-use mathlib.Core.Bool.{false}
 use native.Mathlib.Omega.{arith}
 use Rattle.tables.specs.Bytes.{numbers_in}
 use Rattle.zsrm.proofs.Laws.Claiming.{entry_read, same_met, same_on, same_start}

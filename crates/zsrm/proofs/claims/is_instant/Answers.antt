@@ -1,6 +1,4 @@
-use Prim.Native.Nat.{◌-◌}
 use mathlib.Core.Path.{refl, sym, ◌∙◌}
-use mathlib.Core.Bool.{false}
 use native.Mathlib.Omega.{arith}
 use Rattle.bits.specs.Below.{some}
 use Rattle.bits.proofs.Laws.Below.{some_true, scan_on, scan_end}
@@ -24,12 +22,11 @@ returns-then-is_instant_by c =
 
 pub loop-j-preserved : goal.loop-j-preserved
 unfolding place_at
-loop-j-preserved c =
-    (
-      omega arith,
-      scan_on (instant_in (lists c.args.tasks.now c.args.jobs.now) c.is_se-se.result c.args.rec.previous c.args.rec)
-          c.loop-j.j _ c.loop-j.invariant.1 c.is_instant_by.ensures c.if-is_instant_by.false,
-    )
+loop-j-preserved c = (
+  omega arith,
+  scan_on (instant_in (lists c.args.tasks.now c.args.jobs.now) c.is_se-se.result c.args.rec.previous c.args.rec)
+      c.loop-j.j _ c.loop-j.invariant.1 c.is_instant_by.ensures c.if-is_instant_by.false,
+)
 
 pub returns : goal.returns
 returns c =

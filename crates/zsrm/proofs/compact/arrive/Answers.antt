@@ -1,4 +1,3 @@
-use Prim.Native.Nat.{◌-◌}
 use native.Mathlib.Omega.{arith}
 use Rattle.zsrm.proofs.Laws.Compact.{counted_came, counted_onward, onward_then}
 use borrow.Author.Rules.{rules}

@@ -1,4 +1,3 @@
-use Prim.Native.Nat.{◌-◌}
 use native.Mathlib.Omega.{arith}
 use Rattle.zsrm.proofs.Laws.Gap.{came_start, came_on, came_met, came_end}
 use borrow.Author.Rules.{rules}

@@ -7,6 +7,9 @@ use Rattle.zsrm.proofs.gap.gap.Goals as goal
 pub returns : goal.returns
 unfolding gap_in
 returns c =
-    let s = c.args in record { ticks = c.slack_gap.ensures.ticks
+    let s = c.args in record {
+      ticks = c.slack_gap.ensures.ticks
           ∙ ap (λ (k : ℕ). slack_gap s.g.now s.early s.t k 64)
-          (c.run_gap-runs.ensures ∙ ap (run_gap s.g.now s.n s.se s.entry s.done) c.arrival_gap-arrivals.ensures); early = c.slack_gap.ensures.early }
+          (c.run_gap-runs.ensures ∙ ap (run_gap s.g.now s.n s.se s.entry s.done) c.arrival_gap-arrivals.ensures);
+      early = c.slack_gap.ensures.early;
+    }

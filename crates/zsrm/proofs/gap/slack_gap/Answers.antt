@@ -22,8 +22,7 @@ loop-rest-smaller c = sweep_less _ _ _ _ _ c.loop-rest.invariant.0 (omega arith)
 
 pub loop-rest-preserved : goal.loop-rest-preserved
 loop-rest-preserved c =
-    let s = c.args in
-    (
+    let s = c.args in (
       slack_on s.g.now s.early s.t s.most c.loop-rest.rest _ c.loop-rest.ticks _ _ _ c.loop-rest.invariant.0 (omega arith) c.lowest-j.ensures c.without_lowest-rest.ensures c.slack_in-z.ensures
           c.until-ticks.ensures,
       word_on (λ i. ltb s.t (slack_in s.g.now i)) s.early c.loop-rest.rest _ c.loop-rest.still _ _ _ c.loop-rest.invariant.1 (omega arith) c.lowest-j.ensures c.without_lowest-rest.ensures

@@ -1,4 +1,4 @@
-use Prim.Native.Nat.{ℕ, ◌+◌, ◌-◌, ◌*◌}
+use Prim.Native.Nat.{ℕ, ◌+◌, ◌*◌}
 use mathlib.Core.Path.{sym, ap, ap₂, ◌∙◌}
 use native.Mathlib.Omega.{arith}
 use Rattle.tables.specs.Tables.{lists}
@@ -56,16 +56,15 @@ overflow_cast-nominal c =
     omega (arith, w, c.nominal_of-nominal.ensures)
 
 pub put_job-requires : goal.put_job-requires
-put_job-requires c =
-    (
-      omega (
-        arith,
-        lists_few (lists c.args.tasks.now c.args.jobs.now)
-            c.requires.0,
-        c.job_count-n.ensures,
-      ),
-      c.loop-j.invariant.1.size,
-    )
+put_job-requires c = (
+  omega (
+    arith,
+    lists_few (lists c.args.tasks.now c.args.jobs.now)
+        c.requires.0,
+    c.job_count-n.ensures,
+  ),
+  c.loop-j.invariant.1.size,
+)
 
 pub loop-j-preserved : goal.loop-j-preserved
 loop-j-preserved c =

@@ -3,7 +3,6 @@ use Prim.Native.Nat.{◌-◌, ◌≤◌}
 use mathlib.Core.Path.{◌≡◌}
 use Rattle.bits.proofs.Laws.Arrays.{Written}
 use Rattle.tables.specs.Tables.{lists}
-use Rattle.zsrm.specs.Verdict.{verdict}
 use Rattle.zsrm.specs.declared.answers.Judged.{Judged}
 use Rattle.zsrm.specs.declared.answers.Verdict.TheVariants.{Open}
 use Rattle.zsrm.proofs.Laws.Verdicts.{judged_by}

@@ -1,4 +1,4 @@
-use Prim.Native.Nat.{ℕ, ◌-◌}
+use Prim.Native.Nat.{ℕ}
 use mathlib.Core.Path.{◌≡◌, ap, ◌∙◌}
 use native.Mathlib.Omega.{arith}
 use borrow.Author.Rules.{rules}
@@ -13,12 +13,11 @@ loop-j-init c = (omega arith, search rules, alive_none _ _)
 
 pub loop-j-preserved : goal.loop-j-preserved
 unfolding alive standing_at place_at
-loop-j-preserved c =
-    (
-      omega arith,
-      omega arith,
-      alive_more c.args.rec c.args.first c.loop-j.j _ _ _ c.loop-j.invariant.0 c.loop-j.invariant.2 c.is_unfinished.ensures c.with_bit_if-word.ensures,
-    )
+loop-j-preserved c = (
+  omega arith,
+  omega arith,
+  alive_more c.args.rec c.args.first c.loop-j.j _ _ _ c.loop-j.invariant.0 c.loop-j.invariant.2 c.is_unfinished.ensures c.with_bit_if-word.ensures,
+)
 
 pub returns : goal.returns
 returns c =

@@ -29,8 +29,7 @@ loop-rest-smaller c = sweep_less _ _ _ _ _ c.loop-rest.invariant.0 (omega arith)
 pub loop-rest-preserved : goal.loop-rest-preserved
 loop-rest-preserved c =
     let s = c.args in
-    let less = c.exceeds-held.ensures ∙ ap (λ (x : ℕ). ltb x s.c.0) c.criticality_in.ensures in
-    (
+    let less = c.exceeds-held.ensures ∙ ap (λ (x : ℕ). ltb x s.c.0) c.criticality_in.ensures in (
       word_on (λ i. ltb (criticality_in s.g.now i) s.c.0) s.among c.loop-rest.rest _ c.loop-rest.jobs _ _ _ c.loop-rest.invariant.0 (omega arith) c.lowest-j.ensures c.without_lowest-rest.ensures less c.with_bit_if-jobs.ensures,
       keys_on (λ i. not (ltb (criticality_in s.g.now i) s.c.0)) s.among (priority_in s.g.now) c.loop-rest.rest _ c.loop-rest.ready _ _ _ _ c.loop-rest.invariant.1 (omega arith) c.lowest-j.ensures c.without_lowest-rest.ensures (ap not less)
           c.priority_in-its.ensures c.with_bit_if-ready.ensures,

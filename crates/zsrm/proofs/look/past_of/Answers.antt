@@ -9,12 +9,11 @@ use borrow.Author.Rules.{rules}
 use Rattle.zsrm.proofs.look.past_of.Goals as goal
 
 pub loop-rest-init : goal.loop-rest-init
-loop-rest-init c =
-    (
-      word_start (λ i. leb (slack_in c.args.g.now i) c.args.t) c.args.among c.ranges.among.fits,
-      most_start
-          (λ i. leb (slack_in c.args.g.now i) c.args.t) c.args.among (criticality_in c.args.g.now) c.ranges.among.fits,
-    )
+loop-rest-init c = (
+  word_start (λ i. leb (slack_in c.args.g.now i) c.args.t) c.args.among c.ranges.among.fits,
+  most_start
+      (λ i. leb (slack_in c.args.g.now i) c.args.t) c.args.among (criticality_in c.args.g.now) c.ranges.among.fits,
+)
 
 pub slack_in-requires : goal.slack_in-requires
 slack_in-requires c = (swept_below _ _ _ _ _ c.loop-rest.invariant.0 (omega arith) c.lowest-j.ensures, search rules)
@@ -28,8 +27,7 @@ loop-rest-smaller c = sweep_less _ _ _ _ _ c.loop-rest.invariant.0 (omega arith)
 pub loop-rest-preserved : goal.loop-rest-preserved
 loop-rest-preserved c =
     let s = c.args in
-    let past = ap (λ (x : ℕ). leb x s.t) c.slack_in.ensures in
-    (
+    let past = ap (λ (x : ℕ). leb x s.t) c.slack_in.ensures in (
       word_on (λ i. leb (slack_in s.g.now i) s.t) s.among c.loop-rest.rest _ c.loop-rest.jobs _ _ _ c.loop-rest.invariant.0 (omega arith) c.lowest-j.ensures c.without_lowest-rest.ensures past c.with_bit_if-jobs.ensures,
       most_on (λ i. leb (slack_in s.g.now i) s.t) s.among (criticality_in s.g.now) c.loop-rest.rest _ c.loop-rest.most.0 _ _ _ _ c.loop-rest.invariant.1 (omega arith) c.lowest-j.ensures c.without_lowest-rest.ensures past
           c.criticality_in.ensures c.greater_if-most.ensures,

@@ -1,4 +1,3 @@
-use Prim.Native.Nat.{◌-◌}
 use native.Mathlib.Omega.{arith}
 use Rattle.zsrm.proofs.Laws.Mending.{others_all, others_more, others_most, others_none}
 use Rattle.zsrm.proofs.mending.count_others.Goals as goal

@@ -21,16 +21,22 @@ returns-then-first-schedule c =
     let a = c.args in
     let g = given a.mode a.tasks.now a.jobs.now in
     let ok = sym c.check_mend-checked.ensures ∙ c.in-Done.is in
-    record { answers = rw (eq-eqb _ _ c.if-first-schedule.true) at (mend_answer_law g a.schedule.now _ c.walk-walked.ensures _ c.write_mended-changed.ensures.counts)
-          ∙ sym (answer_is g a.horizon a.schedule.now a.mended.now ok); writes = c.write_mended-changed.ensures.writes ∙ sym (schedule_is g a.horizon a.schedule.now a.mended.now ok) }
+    record {
+      answers = rw (eq-eqb _ _ c.if-first-schedule.true) at (mend_answer_law g a.schedule.now _ c.walk-walked.ensures _ c.write_mended-changed.ensures.counts)
+          ∙ sym (answer_is g a.horizon a.schedule.now a.mended.now ok);
+      writes = c.write_mended-changed.ensures.writes ∙ sym (schedule_is g a.horizon a.schedule.now a.mended.now ok);
+    }
 
 pub returns-else-first-schedule : goal.returns-else-first-schedule
 returns-else-first-schedule c =
     let a = c.args in
     let g = given a.mode a.tasks.now a.jobs.now in
     let ok = sym c.check_mend-checked.ensures ∙ c.in-Done.is in
-    record { answers = rw (ne_eqb _ _ c.if-first-schedule.false) at (mend_answer_law g a.schedule.now _ c.walk-walked.ensures _ c.write_mended-changed.ensures.counts)
-          ∙ sym (answer_is g a.horizon a.schedule.now a.mended.now ok); writes = c.write_mended-changed.ensures.writes ∙ sym (schedule_is g a.horizon a.schedule.now a.mended.now ok) }
+    record {
+      answers = rw (ne_eqb _ _ c.if-first-schedule.false) at (mend_answer_law g a.schedule.now _ c.walk-walked.ensures _ c.write_mended-changed.ensures.counts)
+          ∙ sym (answer_is g a.horizon a.schedule.now a.mended.now ok);
+      writes = c.write_mended-changed.ensures.writes ∙ sym (schedule_is g a.horizon a.schedule.now a.mended.now ok);
+    }
 
 pub returns-in-Refused : goal.returns-in-Refused
 returns-in-Refused c =

@@ -5,7 +5,6 @@ use lib.ListN.{length, replicate}
 use lib.Seq.{take_all}
 use borrow.Author.Rules.{rules}
 use Rattle.bits.proofs.Laws.Lists.{sets_length}
-use Rattle.tables.specs.Tables.{lists}
 use Rattle.tables.proofs.Laws.Accepted.{lists_few}
 use Rattle.zsrm.specs.declared.record.Record.{Record}
 use Rattle.zsrm.specs.Code.Claims.{Mendable}
@@ -59,24 +58,24 @@ pub ahead-far-requires : goal.ahead-far-requires
 ahead-far-requires c = (let lemma_few : (c.job_count-n.result ≤ 64) × (length c.gathered-g.result ≡ 320) = (omega (arith, c.job_count-n.ensures, lists_few _ c.requires.jobs_value.0), c.gathered-g.ensures.size) in lemma_few)
 
 pub overflow_add-end : goal.overflow_add-end
-overflow_add-end c = omega (arith, ((let lemma_lies : Lies c.loop-t.t c.ahead-far.result.ticks (length c.loop-t.into) (length c.args.claimed.now) = let w = (let lemma_turn : Stretch (given c.args.mode c.args.tasks.now c.args.jobs.now) c.started-s.result.«record» c.loop-t.t c.gathered-g.result c.job_count-n.result c.is_se-se.result c.loop-t.s c.look-seen.result c.kept_or-chosen.result (length c.loop-t.into - c.loop-t.t) c.ahead-far.result.ticks = let began = started_record _ _ c.args.start _ c.started-s.ensures in let z = made_setup (given c.args.mode c.args.tasks.now c.args.jobs.now) _ _ _ c.requires.jobs_value.0 c.gathered-g.ensures c.job_count-n.ensures c.is_se-se.ensures in let more : c.loop-t.t < length c.loop-t.into = c.loop-t-test.true in made_stretch (given c.args.mode c.args.tasks.now c.args.jobs.now) _ _ _ _ _ c.loop-t.s _ _ _ _ z (subst (Mendable (given c.args.mode c.args.tasks.now c.args.jobs.now)) (sym began) c.requires.mendable.0) c.loop-t.invariant.3 c.loop-t.invariant.2 c.look-seen.ensures _ c.choice-lowest.ensures _ (c.loop-t.invariant.6 (omega (arith, more, c.loop-t.invariant.1))) c.kept_or-chosen.ensures (omega (arith, more)) (omega (arith, more, c.loop-t.invariant.1, ap (λ (r : Record). r.tick) began, c.requires.mendable.1)) c.ahead-far.ensures.ticks in lemma_turn) in record { mine = omega (arith, w.within, w.some); theirs = omega (arith, w.within, w.some, c.loop-t.invariant.1, c.requires.jobs_value.1); short = omega (arith, c.loop-t.invariant.1, c.requires.mendable.1); } in lemma_lies)).mine, ((let lemma_lies : Lies c.loop-t.t c.ahead-far.result.ticks (length c.loop-t.into) (length c.args.claimed.now) = let w = (let lemma_turn : Stretch (given c.args.mode c.args.tasks.now c.args.jobs.now) c.started-s.result.«record» c.loop-t.t c.gathered-g.result c.job_count-n.result c.is_se-se.result c.loop-t.s c.look-seen.result c.kept_or-chosen.result (length c.loop-t.into - c.loop-t.t) c.ahead-far.result.ticks = let began = started_record _ _ c.args.start _ c.started-s.ensures in let z = made_setup (given c.args.mode c.args.tasks.now c.args.jobs.now) _ _ _ c.requires.jobs_value.0 c.gathered-g.ensures c.job_count-n.ensures c.is_se-se.ensures in let more : c.loop-t.t < length c.loop-t.into = c.loop-t-test.true in made_stretch (given c.args.mode c.args.tasks.now c.args.jobs.now) _ _ _ _ _ c.loop-t.s _ _ _ _ z (subst (Mendable (given c.args.mode c.args.tasks.now c.args.jobs.now)) (sym began) c.requires.mendable.0) c.loop-t.invariant.3 c.loop-t.invariant.2 c.look-seen.ensures _ c.choice-lowest.ensures _ (c.loop-t.invariant.6 (omega (arith, more, c.loop-t.invariant.1))) c.kept_or-chosen.ensures (omega (arith, more)) (omega (arith, more, c.loop-t.invariant.1, ap (λ (r : Record). r.tick) began, c.requires.mendable.1)) c.ahead-far.ensures.ticks in lemma_turn) in record { mine = omega (arith, w.within, w.some); theirs = omega (arith, w.within, w.some, c.loop-t.invariant.1, c.requires.jobs_value.1); short = omega (arith, c.loop-t.invariant.1, c.requires.mendable.1); } in lemma_lies)).short)
+overflow_add-end c = omega (arith, ((let lemma_lies : Lies c.loop-t.t c.ahead-far.result.ticks (length c.loop-t.into) (length c.args.claimed.now) = let w = (let lemma_turn : Stretch (given c.args.mode c.args.tasks.now c.args.jobs.now) c.started-s.result.«record» c.loop-t.t c.gathered-g.result c.job_count-n.result c.is_se-se.result c.loop-t.s c.look-seen.result c.kept_or-chosen.result (length c.loop-t.into - c.loop-t.t) c.ahead-far.result.ticks = let began = started_record _ _ c.args.start _ c.started-s.ensures in let z = made_setup (given c.args.mode c.args.tasks.now c.args.jobs.now) _ _ _ c.requires.jobs_value.0 c.gathered-g.ensures c.job_count-n.ensures c.is_se-se.ensures in let more : c.loop-t.t < length c.loop-t.into = c.loop-t-test.true in made_stretch (given c.args.mode c.args.tasks.now c.args.jobs.now) _ _ _ _ _ c.loop-t.s _ _ _ _ z (subst (Mendable (given c.args.mode c.args.tasks.now c.args.jobs.now)) (sym began) c.requires.mendable.0) c.loop-t.invariant.3 c.loop-t.invariant.2 c.look-seen.ensures _ c.choice-lowest.ensures _ (c.loop-t.invariant.6 (omega (arith, more, c.loop-t.invariant.1))) c.kept_or-chosen.ensures (omega (arith, more)) (omega (arith, more, c.loop-t.invariant.1, ap (λ (r : Record). r.tick) began, c.requires.mendable.1)) c.ahead-far.ensures.ticks in lemma_turn) in record { mine = omega (arith, w.within, w.some); theirs = omega (arith, w.within, w.some, c.loop-t.invariant.1, c.requires.jobs_value.1); short = omega (arith, c.loop-t.invariant.1, c.requires.mendable.1) } in lemma_lies)).mine, ((let lemma_lies : Lies c.loop-t.t c.ahead-far.result.ticks (length c.loop-t.into) (length c.args.claimed.now) = let w = (let lemma_turn : Stretch (given c.args.mode c.args.tasks.now c.args.jobs.now) c.started-s.result.«record» c.loop-t.t c.gathered-g.result c.job_count-n.result c.is_se-se.result c.loop-t.s c.look-seen.result c.kept_or-chosen.result (length c.loop-t.into - c.loop-t.t) c.ahead-far.result.ticks = let began = started_record _ _ c.args.start _ c.started-s.ensures in let z = made_setup (given c.args.mode c.args.tasks.now c.args.jobs.now) _ _ _ c.requires.jobs_value.0 c.gathered-g.ensures c.job_count-n.ensures c.is_se-se.ensures in let more : c.loop-t.t < length c.loop-t.into = c.loop-t-test.true in made_stretch (given c.args.mode c.args.tasks.now c.args.jobs.now) _ _ _ _ _ c.loop-t.s _ _ _ _ z (subst (Mendable (given c.args.mode c.args.tasks.now c.args.jobs.now)) (sym began) c.requires.mendable.0) c.loop-t.invariant.3 c.loop-t.invariant.2 c.look-seen.ensures _ c.choice-lowest.ensures _ (c.loop-t.invariant.6 (omega (arith, more, c.loop-t.invariant.1))) c.kept_or-chosen.ensures (omega (arith, more)) (omega (arith, more, c.loop-t.invariant.1, ap (λ (r : Record). r.tick) began, c.requires.mendable.1)) c.ahead-far.ensures.ticks in lemma_turn) in record { mine = omega (arith, w.within, w.some); theirs = omega (arith, w.within, w.some, c.loop-t.invariant.1, c.requires.jobs_value.1); short = omega (arith, c.loop-t.invariant.1, c.requires.mendable.1) } in lemma_lies)).short)
 
 pub offset_bounds-claimed-t : goal.offset_bounds-claimed-t
-offset_bounds-claimed-t c = omega (arith, ((let lemma_lies : Lies c.loop-t.t c.ahead-far.result.ticks (length c.loop-t.into) (length c.args.claimed.now) = let w = (let lemma_turn : Stretch (given c.args.mode c.args.tasks.now c.args.jobs.now) c.started-s.result.«record» c.loop-t.t c.gathered-g.result c.job_count-n.result c.is_se-se.result c.loop-t.s c.look-seen.result c.kept_or-chosen.result (length c.loop-t.into - c.loop-t.t) c.ahead-far.result.ticks = let began = started_record _ _ c.args.start _ c.started-s.ensures in let z = made_setup (given c.args.mode c.args.tasks.now c.args.jobs.now) _ _ _ c.requires.jobs_value.0 c.gathered-g.ensures c.job_count-n.ensures c.is_se-se.ensures in let more : c.loop-t.t < length c.loop-t.into = c.loop-t-test.true in made_stretch (given c.args.mode c.args.tasks.now c.args.jobs.now) _ _ _ _ _ c.loop-t.s _ _ _ _ z (subst (Mendable (given c.args.mode c.args.tasks.now c.args.jobs.now)) (sym began) c.requires.mendable.0) c.loop-t.invariant.3 c.loop-t.invariant.2 c.look-seen.ensures _ c.choice-lowest.ensures _ (c.loop-t.invariant.6 (omega (arith, more, c.loop-t.invariant.1))) c.kept_or-chosen.ensures (omega (arith, more)) (omega (arith, more, c.loop-t.invariant.1, ap (λ (r : Record). r.tick) began, c.requires.mendable.1)) c.ahead-far.ensures.ticks in lemma_turn) in record { mine = omega (arith, w.within, w.some); theirs = omega (arith, w.within, w.some, c.loop-t.invariant.1, c.requires.jobs_value.1); short = omega (arith, c.loop-t.invariant.1, c.requires.mendable.1); } in lemma_lies)).mine, ((let lemma_lies : Lies c.loop-t.t c.ahead-far.result.ticks (length c.loop-t.into) (length c.args.claimed.now) = let w = (let lemma_turn : Stretch (given c.args.mode c.args.tasks.now c.args.jobs.now) c.started-s.result.«record» c.loop-t.t c.gathered-g.result c.job_count-n.result c.is_se-se.result c.loop-t.s c.look-seen.result c.kept_or-chosen.result (length c.loop-t.into - c.loop-t.t) c.ahead-far.result.ticks = let began = started_record _ _ c.args.start _ c.started-s.ensures in let z = made_setup (given c.args.mode c.args.tasks.now c.args.jobs.now) _ _ _ c.requires.jobs_value.0 c.gathered-g.ensures c.job_count-n.ensures c.is_se-se.ensures in let more : c.loop-t.t < length c.loop-t.into = c.loop-t-test.true in made_stretch (given c.args.mode c.args.tasks.now c.args.jobs.now) _ _ _ _ _ c.loop-t.s _ _ _ _ z (subst (Mendable (given c.args.mode c.args.tasks.now c.args.jobs.now)) (sym began) c.requires.mendable.0) c.loop-t.invariant.3 c.loop-t.invariant.2 c.look-seen.ensures _ c.choice-lowest.ensures _ (c.loop-t.invariant.6 (omega (arith, more, c.loop-t.invariant.1))) c.kept_or-chosen.ensures (omega (arith, more)) (omega (arith, more, c.loop-t.invariant.1, ap (λ (r : Record). r.tick) began, c.requires.mendable.1)) c.ahead-far.ensures.ticks in lemma_turn) in record { mine = omega (arith, w.within, w.some); theirs = omega (arith, w.within, w.some, c.loop-t.invariant.1, c.requires.jobs_value.1); short = omega (arith, c.loop-t.invariant.1, c.requires.mendable.1); } in lemma_lies)).short)
+offset_bounds-claimed-t c = omega (arith, ((let lemma_lies : Lies c.loop-t.t c.ahead-far.result.ticks (length c.loop-t.into) (length c.args.claimed.now) = let w = (let lemma_turn : Stretch (given c.args.mode c.args.tasks.now c.args.jobs.now) c.started-s.result.«record» c.loop-t.t c.gathered-g.result c.job_count-n.result c.is_se-se.result c.loop-t.s c.look-seen.result c.kept_or-chosen.result (length c.loop-t.into - c.loop-t.t) c.ahead-far.result.ticks = let began = started_record _ _ c.args.start _ c.started-s.ensures in let z = made_setup (given c.args.mode c.args.tasks.now c.args.jobs.now) _ _ _ c.requires.jobs_value.0 c.gathered-g.ensures c.job_count-n.ensures c.is_se-se.ensures in let more : c.loop-t.t < length c.loop-t.into = c.loop-t-test.true in made_stretch (given c.args.mode c.args.tasks.now c.args.jobs.now) _ _ _ _ _ c.loop-t.s _ _ _ _ z (subst (Mendable (given c.args.mode c.args.tasks.now c.args.jobs.now)) (sym began) c.requires.mendable.0) c.loop-t.invariant.3 c.loop-t.invariant.2 c.look-seen.ensures _ c.choice-lowest.ensures _ (c.loop-t.invariant.6 (omega (arith, more, c.loop-t.invariant.1))) c.kept_or-chosen.ensures (omega (arith, more)) (omega (arith, more, c.loop-t.invariant.1, ap (λ (r : Record). r.tick) began, c.requires.mendable.1)) c.ahead-far.ensures.ticks in lemma_turn) in record { mine = omega (arith, w.within, w.some); theirs = omega (arith, w.within, w.some, c.loop-t.invariant.1, c.requires.jobs_value.1); short = omega (arith, c.loop-t.invariant.1, c.requires.mendable.1) } in lemma_lies)).mine, ((let lemma_lies : Lies c.loop-t.t c.ahead-far.result.ticks (length c.loop-t.into) (length c.args.claimed.now) = let w = (let lemma_turn : Stretch (given c.args.mode c.args.tasks.now c.args.jobs.now) c.started-s.result.«record» c.loop-t.t c.gathered-g.result c.job_count-n.result c.is_se-se.result c.loop-t.s c.look-seen.result c.kept_or-chosen.result (length c.loop-t.into - c.loop-t.t) c.ahead-far.result.ticks = let began = started_record _ _ c.args.start _ c.started-s.ensures in let z = made_setup (given c.args.mode c.args.tasks.now c.args.jobs.now) _ _ _ c.requires.jobs_value.0 c.gathered-g.ensures c.job_count-n.ensures c.is_se-se.ensures in let more : c.loop-t.t < length c.loop-t.into = c.loop-t-test.true in made_stretch (given c.args.mode c.args.tasks.now c.args.jobs.now) _ _ _ _ _ c.loop-t.s _ _ _ _ z (subst (Mendable (given c.args.mode c.args.tasks.now c.args.jobs.now)) (sym began) c.requires.mendable.0) c.loop-t.invariant.3 c.loop-t.invariant.2 c.look-seen.ensures _ c.choice-lowest.ensures _ (c.loop-t.invariant.6 (omega (arith, more, c.loop-t.invariant.1))) c.kept_or-chosen.ensures (omega (arith, more)) (omega (arith, more, c.loop-t.invariant.1, ap (λ (r : Record). r.tick) began, c.requires.mendable.1)) c.ahead-far.ensures.ticks in lemma_turn) in record { mine = omega (arith, w.within, w.some); theirs = omega (arith, w.within, w.some, c.loop-t.invariant.1, c.requires.jobs_value.1); short = omega (arith, c.loop-t.invariant.1, c.requires.mendable.1) } in lemma_lies)).short)
 
 pub slice_bounds-count_others-count : goal.slice_bounds-count_others-count
-slice_bounds-count_others-count c = omega (arith, ((let lemma_lies : Lies c.loop-t.t c.ahead-far.result.ticks (length c.loop-t.into) (length c.args.claimed.now) = let w = (let lemma_turn : Stretch (given c.args.mode c.args.tasks.now c.args.jobs.now) c.started-s.result.«record» c.loop-t.t c.gathered-g.result c.job_count-n.result c.is_se-se.result c.loop-t.s c.look-seen.result c.kept_or-chosen.result (length c.loop-t.into - c.loop-t.t) c.ahead-far.result.ticks = let began = started_record _ _ c.args.start _ c.started-s.ensures in let z = made_setup (given c.args.mode c.args.tasks.now c.args.jobs.now) _ _ _ c.requires.jobs_value.0 c.gathered-g.ensures c.job_count-n.ensures c.is_se-se.ensures in let more : c.loop-t.t < length c.loop-t.into = c.loop-t-test.true in made_stretch (given c.args.mode c.args.tasks.now c.args.jobs.now) _ _ _ _ _ c.loop-t.s _ _ _ _ z (subst (Mendable (given c.args.mode c.args.tasks.now c.args.jobs.now)) (sym began) c.requires.mendable.0) c.loop-t.invariant.3 c.loop-t.invariant.2 c.look-seen.ensures _ c.choice-lowest.ensures _ (c.loop-t.invariant.6 (omega (arith, more, c.loop-t.invariant.1))) c.kept_or-chosen.ensures (omega (arith, more)) (omega (arith, more, c.loop-t.invariant.1, ap (λ (r : Record). r.tick) began, c.requires.mendable.1)) c.ahead-far.ensures.ticks in lemma_turn) in record { mine = omega (arith, w.within, w.some); theirs = omega (arith, w.within, w.some, c.loop-t.invariant.1, c.requires.jobs_value.1); short = omega (arith, c.loop-t.invariant.1, c.requires.mendable.1); } in lemma_lies)).mine, ((let lemma_lies : Lies c.loop-t.t c.ahead-far.result.ticks (length c.loop-t.into) (length c.args.claimed.now) = let w = (let lemma_turn : Stretch (given c.args.mode c.args.tasks.now c.args.jobs.now) c.started-s.result.«record» c.loop-t.t c.gathered-g.result c.job_count-n.result c.is_se-se.result c.loop-t.s c.look-seen.result c.kept_or-chosen.result (length c.loop-t.into - c.loop-t.t) c.ahead-far.result.ticks = let began = started_record _ _ c.args.start _ c.started-s.ensures in let z = made_setup (given c.args.mode c.args.tasks.now c.args.jobs.now) _ _ _ c.requires.jobs_value.0 c.gathered-g.ensures c.job_count-n.ensures c.is_se-se.ensures in let more : c.loop-t.t < length c.loop-t.into = c.loop-t-test.true in made_stretch (given c.args.mode c.args.tasks.now c.args.jobs.now) _ _ _ _ _ c.loop-t.s _ _ _ _ z (subst (Mendable (given c.args.mode c.args.tasks.now c.args.jobs.now)) (sym began) c.requires.mendable.0) c.loop-t.invariant.3 c.loop-t.invariant.2 c.look-seen.ensures _ c.choice-lowest.ensures _ (c.loop-t.invariant.6 (omega (arith, more, c.loop-t.invariant.1))) c.kept_or-chosen.ensures (omega (arith, more)) (omega (arith, more, c.loop-t.invariant.1, ap (λ (r : Record). r.tick) began, c.requires.mendable.1)) c.ahead-far.ensures.ticks in lemma_turn) in record { mine = omega (arith, w.within, w.some); theirs = omega (arith, w.within, w.some, c.loop-t.invariant.1, c.requires.jobs_value.1); short = omega (arith, c.loop-t.invariant.1, c.requires.mendable.1); } in lemma_lies)).short)
+slice_bounds-count_others-count c = omega (arith, ((let lemma_lies : Lies c.loop-t.t c.ahead-far.result.ticks (length c.loop-t.into) (length c.args.claimed.now) = let w = (let lemma_turn : Stretch (given c.args.mode c.args.tasks.now c.args.jobs.now) c.started-s.result.«record» c.loop-t.t c.gathered-g.result c.job_count-n.result c.is_se-se.result c.loop-t.s c.look-seen.result c.kept_or-chosen.result (length c.loop-t.into - c.loop-t.t) c.ahead-far.result.ticks = let began = started_record _ _ c.args.start _ c.started-s.ensures in let z = made_setup (given c.args.mode c.args.tasks.now c.args.jobs.now) _ _ _ c.requires.jobs_value.0 c.gathered-g.ensures c.job_count-n.ensures c.is_se-se.ensures in let more : c.loop-t.t < length c.loop-t.into = c.loop-t-test.true in made_stretch (given c.args.mode c.args.tasks.now c.args.jobs.now) _ _ _ _ _ c.loop-t.s _ _ _ _ z (subst (Mendable (given c.args.mode c.args.tasks.now c.args.jobs.now)) (sym began) c.requires.mendable.0) c.loop-t.invariant.3 c.loop-t.invariant.2 c.look-seen.ensures _ c.choice-lowest.ensures _ (c.loop-t.invariant.6 (omega (arith, more, c.loop-t.invariant.1))) c.kept_or-chosen.ensures (omega (arith, more)) (omega (arith, more, c.loop-t.invariant.1, ap (λ (r : Record). r.tick) began, c.requires.mendable.1)) c.ahead-far.ensures.ticks in lemma_turn) in record { mine = omega (arith, w.within, w.some); theirs = omega (arith, w.within, w.some, c.loop-t.invariant.1, c.requires.jobs_value.1); short = omega (arith, c.loop-t.invariant.1, c.requires.mendable.1) } in lemma_lies)).mine, ((let lemma_lies : Lies c.loop-t.t c.ahead-far.result.ticks (length c.loop-t.into) (length c.args.claimed.now) = let w = (let lemma_turn : Stretch (given c.args.mode c.args.tasks.now c.args.jobs.now) c.started-s.result.«record» c.loop-t.t c.gathered-g.result c.job_count-n.result c.is_se-se.result c.loop-t.s c.look-seen.result c.kept_or-chosen.result (length c.loop-t.into - c.loop-t.t) c.ahead-far.result.ticks = let began = started_record _ _ c.args.start _ c.started-s.ensures in let z = made_setup (given c.args.mode c.args.tasks.now c.args.jobs.now) _ _ _ c.requires.jobs_value.0 c.gathered-g.ensures c.job_count-n.ensures c.is_se-se.ensures in let more : c.loop-t.t < length c.loop-t.into = c.loop-t-test.true in made_stretch (given c.args.mode c.args.tasks.now c.args.jobs.now) _ _ _ _ _ c.loop-t.s _ _ _ _ z (subst (Mendable (given c.args.mode c.args.tasks.now c.args.jobs.now)) (sym began) c.requires.mendable.0) c.loop-t.invariant.3 c.loop-t.invariant.2 c.look-seen.ensures _ c.choice-lowest.ensures _ (c.loop-t.invariant.6 (omega (arith, more, c.loop-t.invariant.1))) c.kept_or-chosen.ensures (omega (arith, more)) (omega (arith, more, c.loop-t.invariant.1, ap (λ (r : Record). r.tick) began, c.requires.mendable.1)) c.ahead-far.ensures.ticks in lemma_turn) in record { mine = omega (arith, w.within, w.some); theirs = omega (arith, w.within, w.some, c.loop-t.invariant.1, c.requires.jobs_value.1); short = omega (arith, c.loop-t.invariant.1, c.requires.mendable.1) } in lemma_lies)).short)
 
 pub slice_bounds-count_others-end : goal.slice_bounds-count_others-end
-slice_bounds-count_others-end c = ((let lemma_lies : Lies c.loop-t.t c.ahead-far.result.ticks (length c.loop-t.into) (length c.args.claimed.now) = let w = (let lemma_turn : Stretch (given c.args.mode c.args.tasks.now c.args.jobs.now) c.started-s.result.«record» c.loop-t.t c.gathered-g.result c.job_count-n.result c.is_se-se.result c.loop-t.s c.look-seen.result c.kept_or-chosen.result (length c.loop-t.into - c.loop-t.t) c.ahead-far.result.ticks = let began = started_record _ _ c.args.start _ c.started-s.ensures in let z = made_setup (given c.args.mode c.args.tasks.now c.args.jobs.now) _ _ _ c.requires.jobs_value.0 c.gathered-g.ensures c.job_count-n.ensures c.is_se-se.ensures in let more : c.loop-t.t < length c.loop-t.into = c.loop-t-test.true in made_stretch (given c.args.mode c.args.tasks.now c.args.jobs.now) _ _ _ _ _ c.loop-t.s _ _ _ _ z (subst (Mendable (given c.args.mode c.args.tasks.now c.args.jobs.now)) (sym began) c.requires.mendable.0) c.loop-t.invariant.3 c.loop-t.invariant.2 c.look-seen.ensures _ c.choice-lowest.ensures _ (c.loop-t.invariant.6 (omega (arith, more, c.loop-t.invariant.1))) c.kept_or-chosen.ensures (omega (arith, more)) (omega (arith, more, c.loop-t.invariant.1, ap (λ (r : Record). r.tick) began, c.requires.mendable.1)) c.ahead-far.ensures.ticks in lemma_turn) in record { mine = omega (arith, w.within, w.some); theirs = omega (arith, w.within, w.some, c.loop-t.invariant.1, c.requires.jobs_value.1); short = omega (arith, c.loop-t.invariant.1, c.requires.mendable.1); } in lemma_lies)).theirs
+slice_bounds-count_others-end c = ((let lemma_lies : Lies c.loop-t.t c.ahead-far.result.ticks (length c.loop-t.into) (length c.args.claimed.now) = let w = (let lemma_turn : Stretch (given c.args.mode c.args.tasks.now c.args.jobs.now) c.started-s.result.«record» c.loop-t.t c.gathered-g.result c.job_count-n.result c.is_se-se.result c.loop-t.s c.look-seen.result c.kept_or-chosen.result (length c.loop-t.into - c.loop-t.t) c.ahead-far.result.ticks = let began = started_record _ _ c.args.start _ c.started-s.ensures in let z = made_setup (given c.args.mode c.args.tasks.now c.args.jobs.now) _ _ _ c.requires.jobs_value.0 c.gathered-g.ensures c.job_count-n.ensures c.is_se-se.ensures in let more : c.loop-t.t < length c.loop-t.into = c.loop-t-test.true in made_stretch (given c.args.mode c.args.tasks.now c.args.jobs.now) _ _ _ _ _ c.loop-t.s _ _ _ _ z (subst (Mendable (given c.args.mode c.args.tasks.now c.args.jobs.now)) (sym began) c.requires.mendable.0) c.loop-t.invariant.3 c.loop-t.invariant.2 c.look-seen.ensures _ c.choice-lowest.ensures _ (c.loop-t.invariant.6 (omega (arith, more, c.loop-t.invariant.1))) c.kept_or-chosen.ensures (omega (arith, more)) (omega (arith, more, c.loop-t.invariant.1, ap (λ (r : Record). r.tick) began, c.requires.mendable.1)) c.ahead-far.ensures.ticks in lemma_turn) in record { mine = omega (arith, w.within, w.some); theirs = omega (arith, w.within, w.some, c.loop-t.invariant.1, c.requires.jobs_value.1); short = omega (arith, c.loop-t.invariant.1, c.requires.mendable.1) } in lemma_lies)).theirs
 
 pub count_others-others-requires : goal.count_others-others-requires
 count_others-others-requires c =
-    let l = (let lemma_lies : Lies c.loop-t.t c.ahead-far.result.ticks (length c.loop-t.into) (length c.args.claimed.now) = let w = (let lemma_turn : Stretch (given c.args.mode c.args.tasks.now c.args.jobs.now) c.started-s.result.«record» c.loop-t.t c.gathered-g.result c.job_count-n.result c.is_se-se.result c.loop-t.s c.look-seen.result c.kept_or-chosen.result (length c.loop-t.into - c.loop-t.t) c.ahead-far.result.ticks = let began = started_record _ _ c.args.start _ c.started-s.ensures in let z = made_setup (given c.args.mode c.args.tasks.now c.args.jobs.now) _ _ _ c.requires.jobs_value.0 c.gathered-g.ensures c.job_count-n.ensures c.is_se-se.ensures in let more : c.loop-t.t < length c.loop-t.into = c.loop-t-test.true in made_stretch (given c.args.mode c.args.tasks.now c.args.jobs.now) _ _ _ _ _ c.loop-t.s _ _ _ _ z (subst (Mendable (given c.args.mode c.args.tasks.now c.args.jobs.now)) (sym began) c.requires.mendable.0) c.loop-t.invariant.3 c.loop-t.invariant.2 c.look-seen.ensures _ c.choice-lowest.ensures _ (c.loop-t.invariant.6 (omega (arith, more, c.loop-t.invariant.1))) c.kept_or-chosen.ensures (omega (arith, more)) (omega (arith, more, c.loop-t.invariant.1, ap (λ (r : Record). r.tick) began, c.requires.mendable.1)) c.ahead-far.ensures.ticks in lemma_turn) in record { mine = omega (arith, w.within, w.some); theirs = omega (arith, w.within, w.some, c.loop-t.invariant.1, c.requires.jobs_value.1); short = omega (arith, c.loop-t.invariant.1, c.requires.mendable.1); } in lemma_lies) in
+    let l = (let lemma_lies : Lies c.loop-t.t c.ahead-far.result.ticks (length c.loop-t.into) (length c.args.claimed.now) = let w = (let lemma_turn : Stretch (given c.args.mode c.args.tasks.now c.args.jobs.now) c.started-s.result.«record» c.loop-t.t c.gathered-g.result c.job_count-n.result c.is_se-se.result c.loop-t.s c.look-seen.result c.kept_or-chosen.result (length c.loop-t.into - c.loop-t.t) c.ahead-far.result.ticks = let began = started_record _ _ c.args.start _ c.started-s.ensures in let z = made_setup (given c.args.mode c.args.tasks.now c.args.jobs.now) _ _ _ c.requires.jobs_value.0 c.gathered-g.ensures c.job_count-n.ensures c.is_se-se.ensures in let more : c.loop-t.t < length c.loop-t.into = c.loop-t-test.true in made_stretch (given c.args.mode c.args.tasks.now c.args.jobs.now) _ _ _ _ _ c.loop-t.s _ _ _ _ z (subst (Mendable (given c.args.mode c.args.tasks.now c.args.jobs.now)) (sym began) c.requires.mendable.0) c.loop-t.invariant.3 c.loop-t.invariant.2 c.look-seen.ensures _ c.choice-lowest.ensures _ (c.loop-t.invariant.6 (omega (arith, more, c.loop-t.invariant.1))) c.kept_or-chosen.ensures (omega (arith, more)) (omega (arith, more, c.loop-t.invariant.1, ap (λ (r : Record). r.tick) began, c.requires.mendable.1)) c.ahead-far.ensures.ticks in lemma_turn) in record { mine = omega (arith, w.within, w.some); theirs = omega (arith, w.within, w.some, c.loop-t.invariant.1, c.requires.jobs_value.1); short = omega (arith, c.loop-t.invariant.1, c.requires.mendable.1) } in lemma_lies) in
     omega (arith, length_part c.loop-t.t c.ahead-far.result.ticks c.args.claimed.now l.theirs, l.mine, l.short)
 
 pub fill-requires : goal.fill-requires
-fill-requires c = ((let lemma_lies : Lies c.loop-t.t c.ahead-far.result.ticks (length c.loop-t.into) (length c.args.claimed.now) = let w = (let lemma_turn : Stretch (given c.args.mode c.args.tasks.now c.args.jobs.now) c.started-s.result.«record» c.loop-t.t c.gathered-g.result c.job_count-n.result c.is_se-se.result c.loop-t.s c.look-seen.result c.kept_or-chosen.result (length c.loop-t.into - c.loop-t.t) c.ahead-far.result.ticks = let began = started_record _ _ c.args.start _ c.started-s.ensures in let z = made_setup (given c.args.mode c.args.tasks.now c.args.jobs.now) _ _ _ c.requires.jobs_value.0 c.gathered-g.ensures c.job_count-n.ensures c.is_se-se.ensures in let more : c.loop-t.t < length c.loop-t.into = c.loop-t-test.true in made_stretch (given c.args.mode c.args.tasks.now c.args.jobs.now) _ _ _ _ _ c.loop-t.s _ _ _ _ z (subst (Mendable (given c.args.mode c.args.tasks.now c.args.jobs.now)) (sym began) c.requires.mendable.0) c.loop-t.invariant.3 c.loop-t.invariant.2 c.look-seen.ensures _ c.choice-lowest.ensures _ (c.loop-t.invariant.6 (omega (arith, more, c.loop-t.invariant.1))) c.kept_or-chosen.ensures (omega (arith, more)) (omega (arith, more, c.loop-t.invariant.1, ap (λ (r : Record). r.tick) began, c.requires.mendable.1)) c.ahead-far.ensures.ticks in lemma_turn) in record { mine = omega (arith, w.within, w.some); theirs = omega (arith, w.within, w.some, c.loop-t.invariant.1, c.requires.jobs_value.1); short = omega (arith, c.loop-t.invariant.1, c.requires.mendable.1); } in lemma_lies)).mine
+fill-requires c = ((let lemma_lies : Lies c.loop-t.t c.ahead-far.result.ticks (length c.loop-t.into) (length c.args.claimed.now) = let w = (let lemma_turn : Stretch (given c.args.mode c.args.tasks.now c.args.jobs.now) c.started-s.result.«record» c.loop-t.t c.gathered-g.result c.job_count-n.result c.is_se-se.result c.loop-t.s c.look-seen.result c.kept_or-chosen.result (length c.loop-t.into - c.loop-t.t) c.ahead-far.result.ticks = let began = started_record _ _ c.args.start _ c.started-s.ensures in let z = made_setup (given c.args.mode c.args.tasks.now c.args.jobs.now) _ _ _ c.requires.jobs_value.0 c.gathered-g.ensures c.job_count-n.ensures c.is_se-se.ensures in let more : c.loop-t.t < length c.loop-t.into = c.loop-t-test.true in made_stretch (given c.args.mode c.args.tasks.now c.args.jobs.now) _ _ _ _ _ c.loop-t.s _ _ _ _ z (subst (Mendable (given c.args.mode c.args.tasks.now c.args.jobs.now)) (sym began) c.requires.mendable.0) c.loop-t.invariant.3 c.loop-t.invariant.2 c.look-seen.ensures _ c.choice-lowest.ensures _ (c.loop-t.invariant.6 (omega (arith, more, c.loop-t.invariant.1))) c.kept_or-chosen.ensures (omega (arith, more)) (omega (arith, more, c.loop-t.invariant.1, ap (λ (r : Record). r.tick) began, c.requires.mendable.1)) c.ahead-far.ensures.ticks in lemma_turn) in record { mine = omega (arith, w.within, w.some); theirs = omega (arith, w.within, w.some, c.loop-t.invariant.1, c.requires.jobs_value.1); short = omega (arith, c.loop-t.invariant.1, c.requires.mendable.1) } in lemma_lies)).mine
 
 pub slice_bounds-leap-end : goal.slice_bounds-leap-end
 slice_bounds-leap-end c = let size = ((let lemma_few : (c.job_count-n.result ≤ 64) × (length c.gathered-g.result ≡ 320) = (omega (arith, c.job_count-n.ensures, lists_few _ c.requires.jobs_value.0), c.gathered-g.ensures.size) in lemma_few)).1 in search rules
@@ -88,23 +87,23 @@ leap-next-requires c =
 
 pub overflow_add-changed : goal.overflow_add-changed
 overflow_add-changed c =
-    let l = (let lemma_lies : Lies c.loop-t.t c.ahead-far.result.ticks (length c.loop-t.into) (length c.args.claimed.now) = let w = (let lemma_turn : Stretch (given c.args.mode c.args.tasks.now c.args.jobs.now) c.started-s.result.«record» c.loop-t.t c.gathered-g.result c.job_count-n.result c.is_se-se.result c.loop-t.s c.look-seen.result c.kept_or-chosen.result (length c.loop-t.into - c.loop-t.t) c.ahead-far.result.ticks = let began = started_record _ _ c.args.start _ c.started-s.ensures in let z = made_setup (given c.args.mode c.args.tasks.now c.args.jobs.now) _ _ _ c.requires.jobs_value.0 c.gathered-g.ensures c.job_count-n.ensures c.is_se-se.ensures in let more : c.loop-t.t < length c.loop-t.into = c.loop-t-test.true in made_stretch (given c.args.mode c.args.tasks.now c.args.jobs.now) _ _ _ _ _ c.loop-t.s _ _ _ _ z (subst (Mendable (given c.args.mode c.args.tasks.now c.args.jobs.now)) (sym began) c.requires.mendable.0) c.loop-t.invariant.3 c.loop-t.invariant.2 c.look-seen.ensures _ c.choice-lowest.ensures _ (c.loop-t.invariant.6 (omega (arith, more, c.loop-t.invariant.1))) c.kept_or-chosen.ensures (omega (arith, more)) (omega (arith, more, c.loop-t.invariant.1, ap (λ (r : Record). r.tick) began, c.requires.mendable.1)) c.ahead-far.ensures.ticks in lemma_turn) in record { mine = omega (arith, w.within, w.some); theirs = omega (arith, w.within, w.some, c.loop-t.invariant.1, c.requires.jobs_value.1); short = omega (arith, c.loop-t.invariant.1, c.requires.mendable.1); } in lemma_lies) in
-    omega (arith, compared_most _ _ _ _ _ ((let lemma_counted : Compared (given c.args.mode c.args.tasks.now c.args.jobs.now) c.started-s.result.«record» c.args.claimed.now (c.loop-t.changed + c.count_others-others.result) (c.loop-t.t + c.ahead-far.result.ticks) = stretch_counts _ _ _ _ _ _ _ _ _ _ _ ((let lemma_turn : Stretch (given c.args.mode c.args.tasks.now c.args.jobs.now) c.started-s.result.«record» c.loop-t.t c.gathered-g.result c.job_count-n.result c.is_se-se.result c.loop-t.s c.look-seen.result c.kept_or-chosen.result (length c.loop-t.into - c.loop-t.t) c.ahead-far.result.ticks = let began = started_record _ _ c.args.start _ c.started-s.ensures in let z = made_setup (given c.args.mode c.args.tasks.now c.args.jobs.now) _ _ _ c.requires.jobs_value.0 c.gathered-g.ensures c.job_count-n.ensures c.is_se-se.ensures in let more : c.loop-t.t < length c.loop-t.into = c.loop-t-test.true in made_stretch (given c.args.mode c.args.tasks.now c.args.jobs.now) _ _ _ _ _ c.loop-t.s _ _ _ _ z (subst (Mendable (given c.args.mode c.args.tasks.now c.args.jobs.now)) (sym began) c.requires.mendable.0) c.loop-t.invariant.3 c.loop-t.invariant.2 c.look-seen.ensures _ c.choice-lowest.ensures _ (c.loop-t.invariant.6 (omega (arith, more, c.loop-t.invariant.1))) c.kept_or-chosen.ensures (omega (arith, more)) (omega (arith, more, c.loop-t.invariant.1, ap (λ (r : Record). r.tick) began, c.requires.mendable.1)) c.ahead-far.ensures.ticks in lemma_turn)) c.args.claimed.now c.loop-t.changed _ c.loop-t.invariant.5 ((let lemma_lies : Lies c.loop-t.t c.ahead-far.result.ticks (length c.loop-t.into) (length c.args.claimed.now) = let w = (let lemma_turn : Stretch (given c.args.mode c.args.tasks.now c.args.jobs.now) c.started-s.result.«record» c.loop-t.t c.gathered-g.result c.job_count-n.result c.is_se-se.result c.loop-t.s c.look-seen.result c.kept_or-chosen.result (length c.loop-t.into - c.loop-t.t) c.ahead-far.result.ticks = let began = started_record _ _ c.args.start _ c.started-s.ensures in let z = made_setup (given c.args.mode c.args.tasks.now c.args.jobs.now) _ _ _ c.requires.jobs_value.0 c.gathered-g.ensures c.job_count-n.ensures c.is_se-se.ensures in let more : c.loop-t.t < length c.loop-t.into = c.loop-t-test.true in made_stretch (given c.args.mode c.args.tasks.now c.args.jobs.now) _ _ _ _ _ c.loop-t.s _ _ _ _ z (subst (Mendable (given c.args.mode c.args.tasks.now c.args.jobs.now)) (sym began) c.requires.mendable.0) c.loop-t.invariant.3 c.loop-t.invariant.2 c.look-seen.ensures _ c.choice-lowest.ensures _ (c.loop-t.invariant.6 (omega (arith, more, c.loop-t.invariant.1))) c.kept_or-chosen.ensures (omega (arith, more)) (omega (arith, more, c.loop-t.invariant.1, ap (λ (r : Record). r.tick) began, c.requires.mendable.1)) c.ahead-far.ensures.ticks in lemma_turn) in record { mine = omega (arith, w.within, w.some); theirs = omega (arith, w.within, w.some, c.loop-t.invariant.1, c.requires.jobs_value.1); short = omega (arith, c.loop-t.invariant.1, c.requires.mendable.1); } in lemma_lies)).theirs c.count_others-others.ensures in lemma_counted)) l.theirs, l.mine, l.short)
+    let l = (let lemma_lies : Lies c.loop-t.t c.ahead-far.result.ticks (length c.loop-t.into) (length c.args.claimed.now) = let w = (let lemma_turn : Stretch (given c.args.mode c.args.tasks.now c.args.jobs.now) c.started-s.result.«record» c.loop-t.t c.gathered-g.result c.job_count-n.result c.is_se-se.result c.loop-t.s c.look-seen.result c.kept_or-chosen.result (length c.loop-t.into - c.loop-t.t) c.ahead-far.result.ticks = let began = started_record _ _ c.args.start _ c.started-s.ensures in let z = made_setup (given c.args.mode c.args.tasks.now c.args.jobs.now) _ _ _ c.requires.jobs_value.0 c.gathered-g.ensures c.job_count-n.ensures c.is_se-se.ensures in let more : c.loop-t.t < length c.loop-t.into = c.loop-t-test.true in made_stretch (given c.args.mode c.args.tasks.now c.args.jobs.now) _ _ _ _ _ c.loop-t.s _ _ _ _ z (subst (Mendable (given c.args.mode c.args.tasks.now c.args.jobs.now)) (sym began) c.requires.mendable.0) c.loop-t.invariant.3 c.loop-t.invariant.2 c.look-seen.ensures _ c.choice-lowest.ensures _ (c.loop-t.invariant.6 (omega (arith, more, c.loop-t.invariant.1))) c.kept_or-chosen.ensures (omega (arith, more)) (omega (arith, more, c.loop-t.invariant.1, ap (λ (r : Record). r.tick) began, c.requires.mendable.1)) c.ahead-far.ensures.ticks in lemma_turn) in record { mine = omega (arith, w.within, w.some); theirs = omega (arith, w.within, w.some, c.loop-t.invariant.1, c.requires.jobs_value.1); short = omega (arith, c.loop-t.invariant.1, c.requires.mendable.1) } in lemma_lies) in
+    omega (arith, compared_most _ _ _ _ _ ((let lemma_counted : Compared (given c.args.mode c.args.tasks.now c.args.jobs.now) c.started-s.result.«record» c.args.claimed.now (c.loop-t.changed + c.count_others-others.result) (c.loop-t.t + c.ahead-far.result.ticks) = stretch_counts _ _ _ _ _ _ _ _ _ _ _ ((let lemma_turn : Stretch (given c.args.mode c.args.tasks.now c.args.jobs.now) c.started-s.result.«record» c.loop-t.t c.gathered-g.result c.job_count-n.result c.is_se-se.result c.loop-t.s c.look-seen.result c.kept_or-chosen.result (length c.loop-t.into - c.loop-t.t) c.ahead-far.result.ticks = let began = started_record _ _ c.args.start _ c.started-s.ensures in let z = made_setup (given c.args.mode c.args.tasks.now c.args.jobs.now) _ _ _ c.requires.jobs_value.0 c.gathered-g.ensures c.job_count-n.ensures c.is_se-se.ensures in let more : c.loop-t.t < length c.loop-t.into = c.loop-t-test.true in made_stretch (given c.args.mode c.args.tasks.now c.args.jobs.now) _ _ _ _ _ c.loop-t.s _ _ _ _ z (subst (Mendable (given c.args.mode c.args.tasks.now c.args.jobs.now)) (sym began) c.requires.mendable.0) c.loop-t.invariant.3 c.loop-t.invariant.2 c.look-seen.ensures _ c.choice-lowest.ensures _ (c.loop-t.invariant.6 (omega (arith, more, c.loop-t.invariant.1))) c.kept_or-chosen.ensures (omega (arith, more)) (omega (arith, more, c.loop-t.invariant.1, ap (λ (r : Record). r.tick) began, c.requires.mendable.1)) c.ahead-far.ensures.ticks in lemma_turn)) c.args.claimed.now c.loop-t.changed _ c.loop-t.invariant.5 ((let lemma_lies : Lies c.loop-t.t c.ahead-far.result.ticks (length c.loop-t.into) (length c.args.claimed.now) = let w = (let lemma_turn : Stretch (given c.args.mode c.args.tasks.now c.args.jobs.now) c.started-s.result.«record» c.loop-t.t c.gathered-g.result c.job_count-n.result c.is_se-se.result c.loop-t.s c.look-seen.result c.kept_or-chosen.result (length c.loop-t.into - c.loop-t.t) c.ahead-far.result.ticks = let began = started_record _ _ c.args.start _ c.started-s.ensures in let z = made_setup (given c.args.mode c.args.tasks.now c.args.jobs.now) _ _ _ c.requires.jobs_value.0 c.gathered-g.ensures c.job_count-n.ensures c.is_se-se.ensures in let more : c.loop-t.t < length c.loop-t.into = c.loop-t-test.true in made_stretch (given c.args.mode c.args.tasks.now c.args.jobs.now) _ _ _ _ _ c.loop-t.s _ _ _ _ z (subst (Mendable (given c.args.mode c.args.tasks.now c.args.jobs.now)) (sym began) c.requires.mendable.0) c.loop-t.invariant.3 c.loop-t.invariant.2 c.look-seen.ensures _ c.choice-lowest.ensures _ (c.loop-t.invariant.6 (omega (arith, more, c.loop-t.invariant.1))) c.kept_or-chosen.ensures (omega (arith, more)) (omega (arith, more, c.loop-t.invariant.1, ap (λ (r : Record). r.tick) began, c.requires.mendable.1)) c.ahead-far.ensures.ticks in lemma_turn) in record { mine = omega (arith, w.within, w.some); theirs = omega (arith, w.within, w.some, c.loop-t.invariant.1, c.requires.jobs_value.1); short = omega (arith, c.loop-t.invariant.1, c.requires.mendable.1) } in lemma_lies)).theirs c.count_others-others.ensures in lemma_counted)) l.theirs, l.mine, l.short)
 
 pub loop-t-smaller : goal.loop-t-smaller
-loop-t-smaller c = omega (arith, ((let lemma_turn : Stretch (given c.args.mode c.args.tasks.now c.args.jobs.now) c.started-s.result.«record» c.loop-t.t c.gathered-g.result c.job_count-n.result c.is_se-se.result c.loop-t.s c.look-seen.result c.kept_or-chosen.result (length c.loop-t.into - c.loop-t.t) c.ahead-far.result.ticks = let began = started_record _ _ c.args.start _ c.started-s.ensures in let z = made_setup (given c.args.mode c.args.tasks.now c.args.jobs.now) _ _ _ c.requires.jobs_value.0 c.gathered-g.ensures c.job_count-n.ensures c.is_se-se.ensures in let more : c.loop-t.t < length c.loop-t.into = c.loop-t-test.true in made_stretch (given c.args.mode c.args.tasks.now c.args.jobs.now) _ _ _ _ _ c.loop-t.s _ _ _ _ z (subst (Mendable (given c.args.mode c.args.tasks.now c.args.jobs.now)) (sym began) c.requires.mendable.0) c.loop-t.invariant.3 c.loop-t.invariant.2 c.look-seen.ensures _ c.choice-lowest.ensures _ (c.loop-t.invariant.6 (omega (arith, more, c.loop-t.invariant.1))) c.kept_or-chosen.ensures (omega (arith, more)) (omega (arith, more, c.loop-t.invariant.1, ap (λ (r : Record). r.tick) began, c.requires.mendable.1)) c.ahead-far.ensures.ticks in lemma_turn)).one, ((let lemma_lies : Lies c.loop-t.t c.ahead-far.result.ticks (length c.loop-t.into) (length c.args.claimed.now) = let w = (let lemma_turn : Stretch (given c.args.mode c.args.tasks.now c.args.jobs.now) c.started-s.result.«record» c.loop-t.t c.gathered-g.result c.job_count-n.result c.is_se-se.result c.loop-t.s c.look-seen.result c.kept_or-chosen.result (length c.loop-t.into - c.loop-t.t) c.ahead-far.result.ticks = let began = started_record _ _ c.args.start _ c.started-s.ensures in let z = made_setup (given c.args.mode c.args.tasks.now c.args.jobs.now) _ _ _ c.requires.jobs_value.0 c.gathered-g.ensures c.job_count-n.ensures c.is_se-se.ensures in let more : c.loop-t.t < length c.loop-t.into = c.loop-t-test.true in made_stretch (given c.args.mode c.args.tasks.now c.args.jobs.now) _ _ _ _ _ c.loop-t.s _ _ _ _ z (subst (Mendable (given c.args.mode c.args.tasks.now c.args.jobs.now)) (sym began) c.requires.mendable.0) c.loop-t.invariant.3 c.loop-t.invariant.2 c.look-seen.ensures _ c.choice-lowest.ensures _ (c.loop-t.invariant.6 (omega (arith, more, c.loop-t.invariant.1))) c.kept_or-chosen.ensures (omega (arith, more)) (omega (arith, more, c.loop-t.invariant.1, ap (λ (r : Record). r.tick) began, c.requires.mendable.1)) c.ahead-far.ensures.ticks in lemma_turn) in record { mine = omega (arith, w.within, w.some); theirs = omega (arith, w.within, w.some, c.loop-t.invariant.1, c.requires.jobs_value.1); short = omega (arith, c.loop-t.invariant.1, c.requires.mendable.1); } in lemma_lies)).mine, c.loop-t.invariant.1)
+loop-t-smaller c = omega (arith, ((let lemma_turn : Stretch (given c.args.mode c.args.tasks.now c.args.jobs.now) c.started-s.result.«record» c.loop-t.t c.gathered-g.result c.job_count-n.result c.is_se-se.result c.loop-t.s c.look-seen.result c.kept_or-chosen.result (length c.loop-t.into - c.loop-t.t) c.ahead-far.result.ticks = let began = started_record _ _ c.args.start _ c.started-s.ensures in let z = made_setup (given c.args.mode c.args.tasks.now c.args.jobs.now) _ _ _ c.requires.jobs_value.0 c.gathered-g.ensures c.job_count-n.ensures c.is_se-se.ensures in let more : c.loop-t.t < length c.loop-t.into = c.loop-t-test.true in made_stretch (given c.args.mode c.args.tasks.now c.args.jobs.now) _ _ _ _ _ c.loop-t.s _ _ _ _ z (subst (Mendable (given c.args.mode c.args.tasks.now c.args.jobs.now)) (sym began) c.requires.mendable.0) c.loop-t.invariant.3 c.loop-t.invariant.2 c.look-seen.ensures _ c.choice-lowest.ensures _ (c.loop-t.invariant.6 (omega (arith, more, c.loop-t.invariant.1))) c.kept_or-chosen.ensures (omega (arith, more)) (omega (arith, more, c.loop-t.invariant.1, ap (λ (r : Record). r.tick) began, c.requires.mendable.1)) c.ahead-far.ensures.ticks in lemma_turn)).one, ((let lemma_lies : Lies c.loop-t.t c.ahead-far.result.ticks (length c.loop-t.into) (length c.args.claimed.now) = let w = (let lemma_turn : Stretch (given c.args.mode c.args.tasks.now c.args.jobs.now) c.started-s.result.«record» c.loop-t.t c.gathered-g.result c.job_count-n.result c.is_se-se.result c.loop-t.s c.look-seen.result c.kept_or-chosen.result (length c.loop-t.into - c.loop-t.t) c.ahead-far.result.ticks = let began = started_record _ _ c.args.start _ c.started-s.ensures in let z = made_setup (given c.args.mode c.args.tasks.now c.args.jobs.now) _ _ _ c.requires.jobs_value.0 c.gathered-g.ensures c.job_count-n.ensures c.is_se-se.ensures in let more : c.loop-t.t < length c.loop-t.into = c.loop-t-test.true in made_stretch (given c.args.mode c.args.tasks.now c.args.jobs.now) _ _ _ _ _ c.loop-t.s _ _ _ _ z (subst (Mendable (given c.args.mode c.args.tasks.now c.args.jobs.now)) (sym began) c.requires.mendable.0) c.loop-t.invariant.3 c.loop-t.invariant.2 c.look-seen.ensures _ c.choice-lowest.ensures _ (c.loop-t.invariant.6 (omega (arith, more, c.loop-t.invariant.1))) c.kept_or-chosen.ensures (omega (arith, more)) (omega (arith, more, c.loop-t.invariant.1, ap (λ (r : Record). r.tick) began, c.requires.mendable.1)) c.ahead-far.ensures.ticks in lemma_turn) in record { mine = omega (arith, w.within, w.some); theirs = omega (arith, w.within, w.some, c.loop-t.invariant.1, c.requires.jobs_value.1); short = omega (arith, c.loop-t.invariant.1, c.requires.mendable.1) } in lemma_lies)).mine, c.loop-t.invariant.1)
 
 pub loop-t-preserved : goal.loop-t-preserved
 loop-t-preserved c =
     let w = (let lemma_turn : Stretch (given c.args.mode c.args.tasks.now c.args.jobs.now) c.started-s.result.«record» c.loop-t.t c.gathered-g.result c.job_count-n.result c.is_se-se.result c.loop-t.s c.look-seen.result c.kept_or-chosen.result (length c.loop-t.into - c.loop-t.t) c.ahead-far.result.ticks = let began = started_record _ _ c.args.start _ c.started-s.ensures in let z = made_setup (given c.args.mode c.args.tasks.now c.args.jobs.now) _ _ _ c.requires.jobs_value.0 c.gathered-g.ensures c.job_count-n.ensures c.is_se-se.ensures in let more : c.loop-t.t < length c.loop-t.into = c.loop-t-test.true in made_stretch (given c.args.mode c.args.tasks.now c.args.jobs.now) _ _ _ _ _ c.loop-t.s _ _ _ _ z (subst (Mendable (given c.args.mode c.args.tasks.now c.args.jobs.now)) (sym began) c.requires.mendable.0) c.loop-t.invariant.3 c.loop-t.invariant.2 c.look-seen.ensures _ c.choice-lowest.ensures _ (c.loop-t.invariant.6 (omega (arith, more, c.loop-t.invariant.1))) c.kept_or-chosen.ensures (omega (arith, more)) (omega (arith, more, c.loop-t.invariant.1, ap (λ (r : Record). r.tick) began, c.requires.mendable.1)) c.ahead-far.ensures.ticks in lemma_turn) in
-    let l = (let lemma_lies : Lies c.loop-t.t c.ahead-far.result.ticks (length c.loop-t.into) (length c.args.claimed.now) = let w = (let lemma_turn : Stretch (given c.args.mode c.args.tasks.now c.args.jobs.now) c.started-s.result.«record» c.loop-t.t c.gathered-g.result c.job_count-n.result c.is_se-se.result c.loop-t.s c.look-seen.result c.kept_or-chosen.result (length c.loop-t.into - c.loop-t.t) c.ahead-far.result.ticks = let began = started_record _ _ c.args.start _ c.started-s.ensures in let z = made_setup (given c.args.mode c.args.tasks.now c.args.jobs.now) _ _ _ c.requires.jobs_value.0 c.gathered-g.ensures c.job_count-n.ensures c.is_se-se.ensures in let more : c.loop-t.t < length c.loop-t.into = c.loop-t-test.true in made_stretch (given c.args.mode c.args.tasks.now c.args.jobs.now) _ _ _ _ _ c.loop-t.s _ _ _ _ z (subst (Mendable (given c.args.mode c.args.tasks.now c.args.jobs.now)) (sym began) c.requires.mendable.0) c.loop-t.invariant.3 c.loop-t.invariant.2 c.look-seen.ensures _ c.choice-lowest.ensures _ (c.loop-t.invariant.6 (omega (arith, more, c.loop-t.invariant.1))) c.kept_or-chosen.ensures (omega (arith, more)) (omega (arith, more, c.loop-t.invariant.1, ap (λ (r : Record). r.tick) began, c.requires.mendable.1)) c.ahead-far.ensures.ticks in lemma_turn) in record { mine = omega (arith, w.within, w.some); theirs = omega (arith, w.within, w.some, c.loop-t.invariant.1, c.requires.jobs_value.1); short = omega (arith, c.loop-t.invariant.1, c.requires.mendable.1); } in lemma_lies) in
+    let l = (let lemma_lies : Lies c.loop-t.t c.ahead-far.result.ticks (length c.loop-t.into) (length c.args.claimed.now) = let w = (let lemma_turn : Stretch (given c.args.mode c.args.tasks.now c.args.jobs.now) c.started-s.result.«record» c.loop-t.t c.gathered-g.result c.job_count-n.result c.is_se-se.result c.loop-t.s c.look-seen.result c.kept_or-chosen.result (length c.loop-t.into - c.loop-t.t) c.ahead-far.result.ticks = let began = started_record _ _ c.args.start _ c.started-s.ensures in let z = made_setup (given c.args.mode c.args.tasks.now c.args.jobs.now) _ _ _ c.requires.jobs_value.0 c.gathered-g.ensures c.job_count-n.ensures c.is_se-se.ensures in let more : c.loop-t.t < length c.loop-t.into = c.loop-t-test.true in made_stretch (given c.args.mode c.args.tasks.now c.args.jobs.now) _ _ _ _ _ c.loop-t.s _ _ _ _ z (subst (Mendable (given c.args.mode c.args.tasks.now c.args.jobs.now)) (sym began) c.requires.mendable.0) c.loop-t.invariant.3 c.loop-t.invariant.2 c.look-seen.ensures _ c.choice-lowest.ensures _ (c.loop-t.invariant.6 (omega (arith, more, c.loop-t.invariant.1))) c.kept_or-chosen.ensures (omega (arith, more)) (omega (arith, more, c.loop-t.invariant.1, ap (λ (r : Record). r.tick) began, c.requires.mendable.1)) c.ahead-far.ensures.ticks in lemma_turn) in record { mine = omega (arith, w.within, w.some); theirs = omega (arith, w.within, w.some, c.loop-t.invariant.1, c.requires.jobs_value.1); short = omega (arith, c.loop-t.invariant.1, c.requires.mendable.1) } in lemma_lies) in
     let next = stretch_next _ _ _ _ _ _ _ _ _ _ _ w _ c.ahead-far.ensures.early _ c.leap-next.ensures in (
       omega (arith, l.mine, c.loop-t.invariant.1),
       sets_length c.loop-t.into (replicate c.ahead-far.result.ticks _) c.loop-t.t c.fill.ensures ∙ c.loop-t.invariant.1,
       next.0,
       next.1,
       stretch_fills _ _ _ _ _ _ _ _ _ _ _ w c.loop-t.into _ c.loop-t.invariant.4 l.mine c.fill.ensures,
-      (let lemma_counted : Compared (given c.args.mode c.args.tasks.now c.args.jobs.now) c.started-s.result.«record» c.args.claimed.now (c.loop-t.changed + c.count_others-others.result) (c.loop-t.t + c.ahead-far.result.ticks) = stretch_counts _ _ _ _ _ _ _ _ _ _ _ ((let lemma_turn : Stretch (given c.args.mode c.args.tasks.now c.args.jobs.now) c.started-s.result.«record» c.loop-t.t c.gathered-g.result c.job_count-n.result c.is_se-se.result c.loop-t.s c.look-seen.result c.kept_or-chosen.result (length c.loop-t.into - c.loop-t.t) c.ahead-far.result.ticks = let began = started_record _ _ c.args.start _ c.started-s.ensures in let z = made_setup (given c.args.mode c.args.tasks.now c.args.jobs.now) _ _ _ c.requires.jobs_value.0 c.gathered-g.ensures c.job_count-n.ensures c.is_se-se.ensures in let more : c.loop-t.t < length c.loop-t.into = c.loop-t-test.true in made_stretch (given c.args.mode c.args.tasks.now c.args.jobs.now) _ _ _ _ _ c.loop-t.s _ _ _ _ z (subst (Mendable (given c.args.mode c.args.tasks.now c.args.jobs.now)) (sym began) c.requires.mendable.0) c.loop-t.invariant.3 c.loop-t.invariant.2 c.look-seen.ensures _ c.choice-lowest.ensures _ (c.loop-t.invariant.6 (omega (arith, more, c.loop-t.invariant.1))) c.kept_or-chosen.ensures (omega (arith, more)) (omega (arith, more, c.loop-t.invariant.1, ap (λ (r : Record). r.tick) began, c.requires.mendable.1)) c.ahead-far.ensures.ticks in lemma_turn)) c.args.claimed.now c.loop-t.changed _ c.loop-t.invariant.5 ((let lemma_lies : Lies c.loop-t.t c.ahead-far.result.ticks (length c.loop-t.into) (length c.args.claimed.now) = let w = (let lemma_turn : Stretch (given c.args.mode c.args.tasks.now c.args.jobs.now) c.started-s.result.«record» c.loop-t.t c.gathered-g.result c.job_count-n.result c.is_se-se.result c.loop-t.s c.look-seen.result c.kept_or-chosen.result (length c.loop-t.into - c.loop-t.t) c.ahead-far.result.ticks = let began = started_record _ _ c.args.start _ c.started-s.ensures in let z = made_setup (given c.args.mode c.args.tasks.now c.args.jobs.now) _ _ _ c.requires.jobs_value.0 c.gathered-g.ensures c.job_count-n.ensures c.is_se-se.ensures in let more : c.loop-t.t < length c.loop-t.into = c.loop-t-test.true in made_stretch (given c.args.mode c.args.tasks.now c.args.jobs.now) _ _ _ _ _ c.loop-t.s _ _ _ _ z (subst (Mendable (given c.args.mode c.args.tasks.now c.args.jobs.now)) (sym began) c.requires.mendable.0) c.loop-t.invariant.3 c.loop-t.invariant.2 c.look-seen.ensures _ c.choice-lowest.ensures _ (c.loop-t.invariant.6 (omega (arith, more, c.loop-t.invariant.1))) c.kept_or-chosen.ensures (omega (arith, more)) (omega (arith, more, c.loop-t.invariant.1, ap (λ (r : Record). r.tick) began, c.requires.mendable.1)) c.ahead-far.ensures.ticks in lemma_turn) in record { mine = omega (arith, w.within, w.some); theirs = omega (arith, w.within, w.some, c.loop-t.invariant.1, c.requires.jobs_value.1); short = omega (arith, c.loop-t.invariant.1, c.requires.mendable.1); } in lemma_lies)).theirs c.count_others-others.ensures in lemma_counted),
+      (let lemma_counted : Compared (given c.args.mode c.args.tasks.now c.args.jobs.now) c.started-s.result.«record» c.args.claimed.now (c.loop-t.changed + c.count_others-others.result) (c.loop-t.t + c.ahead-far.result.ticks) = stretch_counts _ _ _ _ _ _ _ _ _ _ _ ((let lemma_turn : Stretch (given c.args.mode c.args.tasks.now c.args.jobs.now) c.started-s.result.«record» c.loop-t.t c.gathered-g.result c.job_count-n.result c.is_se-se.result c.loop-t.s c.look-seen.result c.kept_or-chosen.result (length c.loop-t.into - c.loop-t.t) c.ahead-far.result.ticks = let began = started_record _ _ c.args.start _ c.started-s.ensures in let z = made_setup (given c.args.mode c.args.tasks.now c.args.jobs.now) _ _ _ c.requires.jobs_value.0 c.gathered-g.ensures c.job_count-n.ensures c.is_se-se.ensures in let more : c.loop-t.t < length c.loop-t.into = c.loop-t-test.true in made_stretch (given c.args.mode c.args.tasks.now c.args.jobs.now) _ _ _ _ _ c.loop-t.s _ _ _ _ z (subst (Mendable (given c.args.mode c.args.tasks.now c.args.jobs.now)) (sym began) c.requires.mendable.0) c.loop-t.invariant.3 c.loop-t.invariant.2 c.look-seen.ensures _ c.choice-lowest.ensures _ (c.loop-t.invariant.6 (omega (arith, more, c.loop-t.invariant.1))) c.kept_or-chosen.ensures (omega (arith, more)) (omega (arith, more, c.loop-t.invariant.1, ap (λ (r : Record). r.tick) began, c.requires.mendable.1)) c.ahead-far.ensures.ticks in lemma_turn)) c.args.claimed.now c.loop-t.changed _ c.loop-t.invariant.5 ((let lemma_lies : Lies c.loop-t.t c.ahead-far.result.ticks (length c.loop-t.into) (length c.args.claimed.now) = let w = (let lemma_turn : Stretch (given c.args.mode c.args.tasks.now c.args.jobs.now) c.started-s.result.«record» c.loop-t.t c.gathered-g.result c.job_count-n.result c.is_se-se.result c.loop-t.s c.look-seen.result c.kept_or-chosen.result (length c.loop-t.into - c.loop-t.t) c.ahead-far.result.ticks = let began = started_record _ _ c.args.start _ c.started-s.ensures in let z = made_setup (given c.args.mode c.args.tasks.now c.args.jobs.now) _ _ _ c.requires.jobs_value.0 c.gathered-g.ensures c.job_count-n.ensures c.is_se-se.ensures in let more : c.loop-t.t < length c.loop-t.into = c.loop-t-test.true in made_stretch (given c.args.mode c.args.tasks.now c.args.jobs.now) _ _ _ _ _ c.loop-t.s _ _ _ _ z (subst (Mendable (given c.args.mode c.args.tasks.now c.args.jobs.now)) (sym began) c.requires.mendable.0) c.loop-t.invariant.3 c.loop-t.invariant.2 c.look-seen.ensures _ c.choice-lowest.ensures _ (c.loop-t.invariant.6 (omega (arith, more, c.loop-t.invariant.1))) c.kept_or-chosen.ensures (omega (arith, more)) (omega (arith, more, c.loop-t.invariant.1, ap (λ (r : Record). r.tick) began, c.requires.mendable.1)) c.ahead-far.ensures.ticks in lemma_turn) in record { mine = omega (arith, w.within, w.some); theirs = omega (arith, w.within, w.some, c.loop-t.invariant.1, c.requires.jobs_value.1); short = omega (arith, c.loop-t.invariant.1, c.requires.mendable.1) } in lemma_lies)).theirs c.count_others-others.ensures in lemma_counted),
       λ b. stretch_ends _ _ _ _ _ _ _ _ _ _ _ w _ c.ahead-far.ensures.early _ c.leap-next.ensures (omega (arith, b, l.mine, c.loop-t.invariant.1)),
     )
 

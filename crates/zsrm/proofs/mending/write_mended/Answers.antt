@@ -30,11 +30,14 @@ mend_from-requires c =
     let a = c.args in
     let g = given a.mode a.tasks.now a.jobs.now in
     let p = c.requires.jobs_value.1 in
-    let long = c.copy.ensures.long ∙ c.requires.schedule_len_bound.1 in record { jobs_value = (c.requires.jobs_value.0, rest_same g a.schedule.now a.walked p c.copy.new.to long); mendable = (
+    let long = c.copy.ensures.long ∙ c.requires.schedule_len_bound.1 in record {
+      jobs_value = (c.requires.jobs_value.0, rest_same g a.schedule.now a.walked p c.copy.new.to long);
+      mendable = (
         mendable_replayed g a.schedule.now a.walked
             p (lists_few _ c.requires.jobs_value.0) c.requires.schedule_len_bound.0,
         rest_fits g a.schedule.now a.walked p c.copy.new.to long c.requires.schedule_len_bound.0,
-      ) }
+      );
+    }
 
 pub returns : goal.returns
 returns c =

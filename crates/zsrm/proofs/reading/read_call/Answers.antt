@@ -16,8 +16,12 @@ read_jobs-list-requires c =
 pub returns-in-Done : goal.returns-in-Done
 returns-in-Done c =
     let told = c.in-Done.is in
-    record { found = c.before-in-Done.ensures
-          ∙ call_list _ _ _ _ _ c.if-mode-gt1.false _ _ _ c.read_tasks-table.ensures.found told c.read_jobs-list.ensures.found c.check_ticks.ensures; table = λ _. c.read_tasks-table.ensures.holds told; list = λ e. c.read_jobs-list.ensures.holds (before_first _ _ (sym c.before-in-Done.ensures ∙ e)) }
+    record {
+      found = c.before-in-Done.ensures
+          ∙ call_list _ _ _ _ _ c.if-mode-gt1.false _ _ _ c.read_tasks-table.ensures.found told c.read_jobs-list.ensures.found c.check_ticks.ensures;
+      table = λ _. c.read_tasks-table.ensures.holds told;
+      list = λ e. c.read_jobs-list.ensures.holds (before_first _ _ (sym c.before-in-Done.ensures ∙ e));
+    }
 
 pub returns-in-Refused : goal.returns-in-Refused
 returns-in-Refused c = record { found = call_table _ _ _ _ _ c.if-mode-gt1.false _ _ _ c.read_tasks-table.ensures.found c.in-Refused.is; table = λ e. apart (cc); list = λ e. apart (cc) }

@@ -1,4 +1,3 @@
-use Prim.Native.Nat.{◌-◌}
 use mathlib.Core.Path.{refl, sym, ◌∙◌}
 use native.Mathlib.Nat.{le_antisymm}
 use native.Mathlib.Omega.{arith}
@@ -39,10 +38,10 @@ note_job-requires c =
 pub overflow_cast-j-in-Done : goal.overflow_cast-j-in-Done
 overflow_cast-j-in-Done c =
     omega (
-  arith,
-  c.loop-j-test.true,
-  c.loop-j.invariant.1,
-)
+      arith,
+      c.loop-j-test.true,
+      c.loop-j.invariant.1,
+    )
 
 pub mark_job-requires : goal.mark_job-requires
 mark_job-requires c =

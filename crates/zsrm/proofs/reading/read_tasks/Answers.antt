@@ -1,4 +1,3 @@
-use Prim.Native.Nat.{◌-◌}
 use mathlib.Core.Path.{sym, ◌∙◌}
 use native.Mathlib.Nat.{le_antisymm}
 use native.Mathlib.Omega.{arith}
@@ -38,8 +37,11 @@ shape_of-of-in-Refused c = c.loop-k.invariant.2.rows.size ∙ sym c.requires
 pub returns-in-Refused : goal.returns-in-Refused
 unfolding refuse before
 returns-in-Refused c =
-    record { found = rw (tasks_tested, c.if-tasks-count.false)
-          (tasks_stop _ _ _ _ _ _ _ c.loop-k.invariant.2 c.loop-k-test.true (c.check_task-one.ensures _ c.task_in-task.ensures) c.in-Refused.is); holds = λ e. apart (cc) }
+    record {
+      found = rw (tasks_tested, c.if-tasks-count.false)
+          (tasks_stop _ _ _ _ _ _ _ c.loop-k.invariant.2 c.loop-k-test.true (c.check_task-one.ensures _ c.task_in-task.ensures) c.in-Refused.is);
+      holds = λ e. apart (cc);
+    }
 
 pub shape_of-of : goal.shape_of-of
 shape_of-of c = c.loop-k.invariant.2.rows.size ∙ sym c.requires

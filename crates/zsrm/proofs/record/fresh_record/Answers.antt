@@ -1,4 +1,3 @@
-use Prim.Native.Nat.{◌-◌}
 use native.Mathlib.Omega.{arith}
 use Rattle.bits.proofs.Laws.Arrays.{written_more}
 use Rattle.zsrm.specs.Record.{empty, blank, fresh_place}
@@ -9,13 +8,12 @@ pub loop-j-init : goal.loop-j-init
 loop-j-init c = let w = fresh_begun c.args.jobs.now _ c.blank-out.ensures in (omega arith, w.0, w.1, w.2)
 
 pub loop-j-preserved : goal.loop-j-preserved
-loop-j-preserved c =
-    (
-      omega arith,
-      c.loop-j.invariant.1,
-      c.loop-j.invariant.2,
-      written_more empty (fresh_place c.args.jobs.now) blank.places c.loop-j.out.places 64 c.loop-j.j _ c.loop-j.invariant.3 (omega arith) c.fresh_place.ensures,
-    )
+loop-j-preserved c = (
+  omega arith,
+  c.loop-j.invariant.1,
+  c.loop-j.invariant.2,
+  written_more empty (fresh_place c.args.jobs.now) blank.places c.loop-j.out.places 64 c.loop-j.j _ c.loop-j.invariant.3 (omega arith) c.fresh_place.ensures,
+)
 
 pub returns : goal.returns
 returns c =

@@ -1,4 +1,4 @@
-use Prim.Native.Nat.{◌-◌, ℕ}
+use Prim.Native.Nat.{ℕ}
 use mathlib.Core.Path.{◌≡◌, refl, ap, ap₂, ◌∙◌}
 use mathlib.Core.Bool.{Bool, ◌&&◌}
 use native.Mathlib.Omega.{arith}
@@ -14,12 +14,11 @@ loop-j-init c = (omega arith, unfold every in refl)
 
 pub loop-j-preserved : goal.loop-j-preserved
 unfolding sound_at done_at standing_at place_at
-loop-j-preserved c =
-    (
-      omega arith,
-      every_on (sound_at (given c.args.mode c.args.tasks.now c.args.jobs.now) c.args.rec)
-          c.loop-j.j c.loop-j.every _ _ c.loop-j.invariant.1 c.is_sound_at-every.ensures refl,
-    )
+loop-j-preserved c = (
+  omega arith,
+  every_on (sound_at (given c.args.mode c.args.tasks.now c.args.jobs.now) c.args.rec)
+      c.loop-j.j c.loop-j.every _ _ c.loop-j.invariant.1 c.is_sound_at-every.ensures refl,
+)
 
 pub returns : goal.returns
 unfolding consistent

@@ -18,9 +18,12 @@ pub returns-in-Done : goal.returns-in-Done
 returns-in-Done c =
     let g = given c.args.mode c.args.tasks.now c.args.jobs.now in
     let ok = sym c.check_schedule-checked.ensures ∙ c.in-Done.is in
-    let n = length c.args.schedule.now in record { answers = c.or_blank.ensures ∙ run_done g c.args.tie c.args.horizon c.args.schedule.now ok _
-          (c.run_from-made.ensures.ends ∙ ap (λ (r : Record). final_by g (choice g c.args.tie) r n) c.fresh_record.ensures); writes = run_writes g c.args.tie c.args.horizon c.args.schedule.now ok _
-          (c.run_from-made.ensures.writes ∙ ap (λ (r : Record). entries_by g (choice g c.args.tie) r n) c.fresh_record.ensures) }
+    let n = length c.args.schedule.now in record {
+      answers = c.or_blank.ensures ∙ run_done g c.args.tie c.args.horizon c.args.schedule.now ok _
+          (c.run_from-made.ensures.ends ∙ ap (λ (r : Record). final_by g (choice g c.args.tie) r n) c.fresh_record.ensures);
+      writes = run_writes g c.args.tie c.args.horizon c.args.schedule.now ok _
+          (c.run_from-made.ensures.writes ∙ ap (λ (r : Record). entries_by g (choice g c.args.tie) r n) c.fresh_record.ensures);
+    }
 
 pub returns-in-Refused : goal.returns-in-Refused
 returns-in-Refused c =

@@ -176,5 +176,8 @@ returns c =
     let few = lists_few _ c.requires.jobs_value in
     let fits = c.requires.start_value.1 in
     let began = started_record _ _ a.start _ c.started-s.ensures in
-    let last : c.loop-t.t ≡ length a.schedule.now = omega (arith, c.loop-t.invariant.1) in record { ends = c.loop-t.invariant.3.is ∙ ap (final_by x (choice x a.tie) _) last ∙ ap (λ (r : Record). final_by x (choice x a.tie) r (length a.schedule.now)) began; writes = sym (take_all c.loop-t.t c.loop-t.schedule (omega (arith, c.loop-t.invariant.1))) ∙ c.loop-t.invariant.4 ∙ ap (entries_by x (choice x a.tie) _) last
-          ∙ ap (λ (r : Record). entries_by x (choice x a.tie) r (length a.schedule.now)) began }
+    let last : c.loop-t.t ≡ length a.schedule.now = omega (arith, c.loop-t.invariant.1) in record {
+      ends = c.loop-t.invariant.3.is ∙ ap (final_by x (choice x a.tie) _) last ∙ ap (λ (r : Record). final_by x (choice x a.tie) r (length a.schedule.now)) began;
+      writes = sym (take_all c.loop-t.t c.loop-t.schedule (omega (arith, c.loop-t.invariant.1))) ∙ c.loop-t.invariant.4 ∙ ap (entries_by x (choice x a.tie) _) last
+          ∙ ap (λ (r : Record). entries_by x (choice x a.tie) r (length a.schedule.now)) began;
+    }

@@ -1,12 +1,9 @@
 -- A finishing instant lies within the schedule, at or after arrival; every other standing has the empty part.
 use Prim.Native.Nat.{◌+◌, ◌-◌, ℕ, ◌≤◌}
 use mathlib.Core.Path.{◌≡◌, refl, ap, subst}
-use mathlib.Core.List.{[], List, ◌∷◌}
-use mathlib.Core.Logic.{◌⊎◌, inl, inr}
+use mathlib.Core.List.{[], List}
 use native.Mathlib.Omega.{arith}
 use lib.ListN.{length, take, drop}
-use types.Run.{OneOf}
-use denote.Enum.Declared.{tag_of}
 use borrow.Author.Rules.{rules}
 use Rattle.zsrm.specs.declared.record.Standing.{Standing}
 use Rattle.zsrm.specs.declared.record.Standing.TheVariants.{NotArrived, Unfinished, Finished, Ended}
@@ -15,7 +12,6 @@ use Rattle.tables.specs.Tables.{arrival}
 use Rattle.tables.specs.Fields.{job_at}
 use Rattle.zsrm.specs.Verdict.{Shows, part_to}
 use Rattle.zsrm.specs.Code.Claims.{FitsIn}
-use Rattle.zsrm.specs.contracts.record.Standing.{the_type}
 use Rattle.zsrm.proofs.witnesses.finished_part.Goals as goal
 
 -- the standings that are not `Finished` have the empty part, which begins at 0

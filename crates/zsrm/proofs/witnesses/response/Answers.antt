@@ -28,8 +28,7 @@ pub replayed_part-requires : goal.replayed_part-requires
 unfolding legal_length
 replayed_part-requires c =
     let a = c.args in
-    let w = witnessed _ _ _ _ (sym c.check_witness-checked.ensures ∙ c.in-Done.is) in
-    (
+    let w = witnessed _ _ _ _ (sym c.check_witness-checked.ensures ∙ c.in-Done.is) in (
       omega (arith, w.named.job, w.named.few),
       λ legal. let all = sym c.walk-walked.ensures.ticks ∙ eqb-true _ _ legal in
           subst (λ (r : Record). FitsIn (arrival a.jobs.now a.job) a.schedule.now (standing_at r a.job)) (sym (replayed_whole _ _ _ c.walk-walked.ensures all))
