@@ -16,7 +16,7 @@ use native.Mathlib.Omega.{arith}
 use lib.Dec.{eqb, ltb}
 use lib.ListN.{get_or, length, length-set, set, take}
 use borrow.Author.Tests.{eq-eqb, eqb-true, lt-ltb, ltb-true}
-use Rattle.bits.proofs.Laws.Bools.{clash, or_cases, or_left, or_right, apart}
+use Rattle.bits.proofs.Laws.Bools.{clash, or_cases, or_left, or_right}
 use Rattle.tables.specs.declared.answers.Outcome.{Outcome}
 use Rattle.tables.specs.declared.answers.Outcome.TheVariants as outcomes
 use Rattle.tables.specs.Said.{done, outcome_said, refused}

@@ -173,6 +173,7 @@ pub fn check_jobs(tasks: &[u32], jobs: &[u32]) -> Outcome
 }
 
 // What every entry point that is given tasks and jobs checks first.
+#[tactic(auto, unfolding(crate::specs::Refusals::check_lists))]
 pub fn check_lists(tasks: &[u32], jobs: &[u32]) -> Outcome
     ensures { result ≡ check_lists (lists tasks.now jobs.now) }
 {
@@ -255,6 +256,7 @@ pub fn check10(entries: usize, horizon: u32) -> Outcome
 }
 
 // What every entry point that is given lists, a horizon and a schedule checks: 2 to 10.
+#[tactic(auto, unfolding(crate::specs::Refusals::check_schedule))]
 pub fn check_schedule(tasks: &[u32], jobs: &[u32], horizon: u32, entries: usize) -> Outcome
     ensures { result ≡ check_schedule (lists tasks.now jobs.now) horizon entries }
 {

@@ -13,7 +13,7 @@ use Rattle.tables.specs.declared.answers.Outcome.{Outcome}
 use Rattle.tables.specs.declared.answers.Outcome.TheVariants as outcomes
 use Rattle.tables.specs.Refusals.{before, refuse, unless}
 use Rattle.tables.specs.Tables.{task_count}
-use Rattle.tables.proofs.Laws.Refusals.{before_first, before_second, fine, refuse_fine, unless_done, unless_refused}
+use Rattle.tables.proofs.Laws.Refusals.{before_first, before_second, refuse_fine, unless_done, unless_refused}
 use Rattle.tables.proofs.Laws.Refusals.{before_passes, before_stops, only_before, only_done, only_exactly, only_refuse, answered}
 use Rattle.tables.proofs.Readings.{refuse_done}
 use Rattle.index.specs.declared.answers.Count.TheVariants.{Refused, Ticks}

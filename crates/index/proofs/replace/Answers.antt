@@ -27,9 +27,13 @@ bounds-schedule-at-in-Done c = replace_tick _ _ _ _ _ ((let lemma_found : let a 
 pub returns-in-Done : goal.returns-in-Done
 returns-in-Done c =
     let a = c.args in
-    let ok = (let lemma_found : let a = c.args in replace_answer (plan a.tasks.now a.jobs.now a.horizon) a.schedule.now a.index.now a.tick a.entry ≡ Done = sym c.check_replace-found.ensures ∙ c.in-Done.is in lemma_found) in record { answers = sym ok; schedules = sym (replace_schedules _ _ _ _ _ ok); indexes = c.move_rows.ensures
-            ∙ ap₂ (λ (o n : ℕ). row_by_row (row_width a.tasks.now) (row_count a.horizon) (moved a.tasks.now a.index.now a.tick o n)) c.column-old.ensures c.column-new.ensures
-            ∙ sym (replace_indexes _ _ _ _ _ ok) }
+    let ok = (let lemma_found : let a = c.args in replace_answer (plan a.tasks.now a.jobs.now a.horizon) a.schedule.now a.index.now a.tick a.entry ≡ Done = sym c.check_replace-found.ensures ∙ c.in-Done.is in lemma_found) in record {
+      answers = sym ok;
+      schedules = sym (replace_schedules _ _ _ _ _ ok);
+      indexes = c.move_rows.ensures
+          ∙ ap₂ (λ (o n : ℕ). row_by_row (row_width a.tasks.now) (row_count a.horizon) (moved a.tasks.now a.index.now a.tick o n)) c.column-old.ensures c.column-new.ensures
+          ∙ sym (replace_indexes _ _ _ _ _ ok);
+    }
 
 pub returns-in-Refused : goal.returns-in-Refused
 returns-in-Refused c =

@@ -1,4 +1,3 @@
-use Prim.Native.Nat.{◌-◌}
 use mathlib.Core.Path.{refl, subst, sym, ◌∙◌, ◌≡◌}
 use mathlib.Core.List.{List}
 use native.Mathlib.Omega.{arith}

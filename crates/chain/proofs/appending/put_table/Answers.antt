@@ -26,5 +26,8 @@ put_numbers-requires c =
 pub returns : goal.returns
 unfolding trailer_numbers
 returns c =
-    let a = c.args in record { writes = written_both a.layout a.file.now a.used a.table.now _ _ _ _ c.put_numbers.ensures.writes
-          c.put_numbers-at.ensures.writes c.put_numbers-at.ensures.ends c.trailer_numbers-trailer.ensures; ends = omega (arith, c.put_numbers.ensures.ends, c.put_numbers-at.ensures.ends, ap length c.trailer_numbers-trailer.ensures) }
+    let a = c.args in record {
+      writes = written_both a.layout a.file.now a.used a.table.now _ _ _ _ c.put_numbers.ensures.writes
+          c.put_numbers-at.ensures.writes c.put_numbers-at.ensures.ends c.trailer_numbers-trailer.ensures;
+      ends = omega (arith, c.put_numbers.ensures.ends, c.put_numbers-at.ensures.ends, ap length c.trailer_numbers-trailer.ensures);
+    }

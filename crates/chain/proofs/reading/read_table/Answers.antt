@@ -29,7 +29,7 @@ slice_bounds-fields-end c =
     )
 
 pub slice_bounds-check_table-end : goal.slice_bounds-check_table-end
-slice_bounds-check_table-end c = sym (length-take-le _ _ (let a = c.args in omega ( arith, ap length c.decode-fields.ensures ∙ length_padded 128 (numbers_from a.file.now a.trailer.start c.numbers_of-n.result), c.numbers_of-n.ensures.most, c.if-count-gt16.false, )))
+slice_bounds-check_table-end c = sym (length-take-le _ _ (let a = c.args in omega (arith, ap length c.decode-fields.ensures ∙ length_padded 128 (numbers_from a.file.now a.trailer.start c.numbers_of-n.result), c.numbers_of-n.ensures.most, c.if-count-gt16.false)))
 
 pub returns-in-Done : goal.returns-in-Done
 returns-in-Done c =

@@ -1,4 +1,3 @@
-use Prim.Native.Nat.{◌-◌}
 use mathlib.Core.Bool.{Bool, ◌&&◌}
 use mathlib.Core.Path.{ap, ap₂, sym, ◌∙◌}
 use native.Mathlib.Omega.{arith}

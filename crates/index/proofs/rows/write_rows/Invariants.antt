@@ -1,5 +1,5 @@
 -- The invariant: the rows before row r are written, and the counts are those of the entries before its multiple.
-use Prim.Native.Nat.{◌+◌, ◌-◌, ◌*◌, ◌≤◌}
+use Prim.Native.Nat.{◌-◌, ◌*◌, ◌≤◌}
 use mathlib.Core.List.{◌++◌}
 use mathlib.Core.Path.{◌≡◌}
 use lib.ListN.{drop, length, take}

@@ -1,7 +1,6 @@
 -- A schedule as long as the horizon is never refused for its length.
 use mathlib.Core.Logic.{inl}
 use mathlib.Core.Path.{ap₂, refl, sym, ◌∙◌}
-use borrow.Author.Rules.{rules}
 use Rattle.tables.specs.Refusals.{before}
 use Rattle.tables.specs.Tables.{lists}
 use Rattle.tables.proofs.Laws.Accepted.{schedule_checked}

@@ -1,5 +1,4 @@
 -- The word, the numbers, the responses and the newline, one behind the other.
-use borrow.Author.Rules.{rules}
 use Rattle.season.proofs.Laws.Lines.{put_row}
 use Rattle.text.proofs.Laws.Put.{put_more}
 use Rattle.season.proofs.lines.put_row.Goals as goal

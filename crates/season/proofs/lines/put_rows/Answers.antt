@@ -1,4 +1,3 @@
-use Prim.Native.Nat.{◌-◌}
 use mathlib.Core.Path.{refl, ◌≡◌}
 use native.Mathlib.Omega.{arith}
 use Rattle.season.specs.Reports.{row_at, task_rows}
@@ -25,12 +24,11 @@ loop-k-smaller c = omega (arith, c.loop-k-test.true, c.task_rows-n.ensures)
 
 pub loop-k-preserved : goal.loop-k-preserved
 unfolding row_at
-loop-k-preserved c =
-    (
-      omega (arith, c.loop-k-test.true),
-      lines_most c.loop-k.k c.loop-k.at _ (omega (arith, c.loop-k-test.true)) c.loop-k.invariant.1 c.put_row-at.ensures.few,
-      put_rows c.args.report c.loop-k.k refl c.loop-k.invariant.2 c.put_row-at.ensures.puts,
-    )
+loop-k-preserved c = (
+  omega (arith, c.loop-k-test.true),
+  lines_most c.loop-k.k c.loop-k.at _ (omega (arith, c.loop-k-test.true)) c.loop-k.invariant.1 c.put_row-at.ensures.few,
+  put_rows c.args.report c.loop-k.k refl c.loop-k.invariant.2 c.put_row-at.ensures.puts,
+)
 
 pub shape_of-out : goal.shape_of-out
 unfolding row_lines

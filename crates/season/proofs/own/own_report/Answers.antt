@@ -1,4 +1,4 @@
-use Prim.Native.Nat.{◌-◌, ◌<◌}
+use Prim.Native.Nat.{◌<◌}
 use mathlib.Core.Path.{ap, ◌∙◌, ◌≡◌}
 use native.Mathlib.Omega.{arith}
 use Rattle.tables.specs.declared.fields.Job.{Job}
@@ -35,11 +35,11 @@ bounds-run-j c = omega (arith, c.loop-j-test.true, c.job_count-n.ensures, judged
 pub overflow_cast-j : goal.overflow_cast-j
 overflow_cast-j c =
     omega (
-  arith,
-  c.loop-j-test.true,
-  c.job_count-n.ensures,
-  judged_run_few c.requires,
-)
+      arith,
+      c.loop-j-test.true,
+      c.job_count-n.ensures,
+      judged_run_few c.requires,
+    )
 
 pub offset_bounds-out-k : goal.offset_bounds-out-k
 unfolding task_count

@@ -1,6 +1,4 @@
-use Prim.Native.Nat.{◌-◌}
 use mathlib.Core.Path.{◌∙◌}
-use mathlib.Core.Logic.{⊎_elim}
 use borrow.Author.Rules.{rules}
 use Rattle.sheet.proofs.Laws.Lines.{stretched_end, stretched_first, stretched_new, stretched_same, stretches_none}
 use Rattle.text.proofs.Laws.Put.{put_length}
@@ -16,9 +14,9 @@ loop-t-init c = stretched_first _ _ _ c.if-schedule-eq0.false
 pub loop-t-preserved : goal.loop-t-preserved
 loop-t-preserved c =
     elim c.if-e-current.branch [
-      then-e-current w ↦
-        rw (w.out-is, w.first-is, w.current-is, w.k-is) (stretched_new c.loop-t.invariant (search rules) w.if-e-current.true w.put_stretch-k.ensures)
-    | else-e-current w ↦ rw (w.out-is, w.first-is, w.current-is, w.k-is) (stretched_same c.loop-t.invariant (search rules) w.if-e-current.false)
+      | then-e-current w ↦
+          rw (w.out-is, w.first-is, w.current-is, w.k-is) (stretched_new c.loop-t.invariant (search rules) w.if-e-current.true w.put_stretch-k.ensures)
+      | else-e-current w ↦ rw (w.out-is, w.first-is, w.current-is, w.k-is) (stretched_same c.loop-t.invariant (search rules) w.if-e-current.false)
     ]
 
 pub shape_of-out : goal.shape_of-out
