@@ -2,6 +2,7 @@
 // difference is written with all that it takes to repeat the call.
 use crate::answers::{AT_LEAST, EXACTLY, NUMBERED, OUTSIDE, REFUSED};
 use crate::list::{Case, at, entry_at};
+use std::io;
 
 // Each call has 64 counts: its answers, in the order in which a report names them, from 32 on the refusals by their numbers, and at 63 how
 // often it was made.
@@ -52,92 +53,101 @@ fn class(answer: u64) -> usize {
 }
 
 // A call was compared: what it names, a job, a tick, or how many parts or entries, what was expected, and what came.
-pub fn note(t: &mut Tally, call: usize, number: u32, want: u64, got: u64) {
+pub fn note(
+    rt: &impl Print,
+    t: &mut Tally,
+    call: usize,
+    number: u32,
+    want: u64,
+    got: u64,
+) -> io::Result<()> {
     add(t, CALLS, 1);
     add(t, call % 1856 + MADE, 1);
     add(t, call % 1856 + class(want) % 64, 1);
     if want != got {
         add(t, DIFFERENCES, 1);
-        difference(call / 64, number, want, got);
+        difference(rt, call / 64, number, want, got)?;
     }
+    Ok(())
 }
 
 // The calls are numbered from 1, as a report lists them.
-fn difference(call: usize, number: u32, want: u64, got: u64) {
-    say(b"difference: call ", call as u64);
-    say(b", number ", number as u64);
-    say(b": expected ", want);
-    say(b", got ", got);
-    text(b"\n");
+fn difference(rt: &impl Print, call: usize, number: u32, want: u64, got: u64) -> io::Result<()> {
+    say(rt, b"difference: call ", call as u64)?;
+    say(rt, b", number ", number as u64)?;
+    say(rt, b": expected ", want)?;
+    say(rt, b", got ", got)?;
+    text(rt, b"\n")
 }
 
-pub fn text(words: &[u8]) {
-    io::write_all(1, words);
+pub fn text(rt: &impl Print, words: &[u8]) -> io::Result<()> {
+    rt.write_all(words)
 }
 
 // Words and a number.
-pub fn say(words: &[u8], n: u64) {
-    text(words);
-    io::print_decimal(1, n);
+pub fn say(rt: &impl Print, words: &[u8], n: u64) -> io::Result<()> {
+    text(rt, words)?;
+    rt.print(n)
 }
 
-fn refused(number: usize, times: u32) {
+fn refused(rt: &impl Print, number: usize, times: u32) -> io::Result<()> {
     if 0 < times {
-        say(b"; refused ", number as u64);
-        say(b": ", times as u64);
+        say(rt, b"; refused ", number as u64)?;
+        say(rt, b": ", times as u64)?;
     }
+    Ok(())
 }
 
 // What the words name, so many counts, and the refusals that came; nothing of a call that was not made.
-pub fn line(t: &Tally, words: &[u8], call: usize, n: usize) {
+pub fn line(rt: &impl Print, t: &Tally, words: &[u8], call: usize, n: usize) -> io::Result<()> {
     let first = call % 1856;
     if count(t, first + MADE) == 0 {
-        return;
+        return Ok(());
     }
-    text(words);
+    text(rt, words)?;
     for k in 0..MADE {
         let times = count(t, first + k);
         if k < n {
-            say(b" ", times as u64);
+            say(rt, b" ", times as u64)?;
         }
         if 32 < k {
-            refused(k - 32, times);
+            refused(rt, k - 32, times)?;
         }
     }
-    text(b"\n");
+    text(rt, b"\n")
 }
 
 // The inputs, calls and differences that were counted.
-pub fn totals(t: &Tally) {
-    say(b": inputs ", count(t, INPUTS) as u64);
-    say(b", calls ", count(t, CALLS) as u64);
-    say(b", differences ", count(t, DIFFERENCES) as u64);
-    text(b"\n");
+pub fn totals(rt: &impl Print, t: &Tally) -> io::Result<()> {
+    say(rt, b": inputs ", count(t, INPUTS) as u64)?;
+    say(rt, b", calls ", count(t, CALLS) as u64)?;
+    say(rt, b", differences ", count(t, DIFFERENCES) as u64)?;
+    text(rt, b"\n")
 }
 
-pub fn numbers(name: &[u8], list: &[u32]) {
+pub fn numbers(rt: &impl Print, name: &[u8], list: &[u32]) -> io::Result<()> {
     let n = list.len();
-    text(name);
+    text(rt, name)?;
     for i in 0..n {
-        say(b" ", at(list, i) as u64);
+        say(rt, b" ", at(list, i) as u64)?;
     }
-    text(b"\n");
+    text(rt, b"\n")
 }
 
-pub fn print_input(case: Case, tasks: &[u32], jobs: &[u32]) {
-    say(b"  in trial ", case.trial as u64);
-    say(b", horizon ", case.horizon as u64);
-    say(b", entries ", case.room as u64);
-    say(b", tie ", case.way as u64);
-    numbers(b"\n  tasks", tasks);
-    numbers(b"  jobs", jobs);
+pub fn print_input(rt: &impl Print, case: Case, tasks: &[u32], jobs: &[u32]) -> io::Result<()> {
+    say(rt, b"  in trial ", case.trial as u64)?;
+    say(rt, b", horizon ", case.horizon as u64)?;
+    say(rt, b", entries ", case.room as u64)?;
+    say(rt, b", tie ", case.way as u64)?;
+    numbers(rt, b"\n  tasks", tasks)?;
+    numbers(rt, b"  jobs", jobs)
 }
 
-pub fn print_line(line: &[u16]) {
+pub fn print_line(rt: &impl Print, line: &[u16]) -> io::Result<()> {
     let n = line.len();
-    text(b"  schedule");
+    text(rt, b"  schedule")?;
     for i in 0..n {
-        say(b" ", entry_at(line, i) as u64);
+        say(rt, b" ", entry_at(line, i) as u64)?;
     }
-    text(b"\n");
+    text(rt, b"\n")
 }
