@@ -10,6 +10,7 @@ use drawn::inputs::{make_input, short};
 use drawn::judge::{FINE, late, refusal, tasks_key};
 use drawn::list::{List, at, front, least, less, list_of, wide};
 use drawn::tally::{Tally, note};
+use std::io;
 
 // The bytes that a file is made in: often too few for the tables of a trial.
 type Book = [u8; 2048];
@@ -190,6 +191,7 @@ fn due_by_log(two: bool, trial: u32, log: List, left: usize) -> Due {
 
 // What a reader is told at a place, or at the end, and where it can go on.
 fn try_read(
+    rt: &impl Print,
     t: &mut Tally,
     call: usize,
     two: bool,
@@ -197,7 +199,7 @@ fn try_read(
     used: usize,
     place: usize,
     due: Due,
-) -> u32 {
+) -> io::Result<u32> {
     let reader = if two { Layout::Two } else { Layout::One };
     let got = if call == LAST {
         chain::last(reader, file, used)
@@ -213,12 +215,19 @@ fn try_read(
     }
     let said = (got.layout == due.layout) & (got.count == due.count);
     let answer = answer_if(of_outcome(outcome), same, said, got.before == due.before);
-    note(t, call, (place % 4294967296) as u32, due.answer, answer);
-    got.before
+    note(rt, t, call, (place % 4294967296) as u32, due.answer, answer)?;
+    Ok(got.before)
 }
 
 // A file walked from its end: by its log where it is as it was written, else by the rule. The walk ends, and then no table is left.
-fn try_walk(t: &mut Tally, h: Held, trial: u32, two: bool, written: bool) {
+fn try_walk(
+    rt: &impl Print,
+    t: &mut Tally,
+    h: Held,
+    trial: u32,
+    two: bool,
+    written: bool,
+) -> io::Result<()> {
     let bytes = h.bytes;
     let log = h.log;
     let used = (h.used % 65536) as u32;
@@ -232,13 +241,13 @@ fn try_walk(t: &mut Tally, h: Held, trial: u32, two: bool, written: bool) {
             } else {
                 due_by_rule(two, &bytes, h.used, i)
             };
-            place = try_read(t, READ, two, &bytes, h.used, i, due);
+            place = try_read(rt, t, READ, two, &bytes, h.used, i, due)?;
             left = if left < 2 { 0 } else { left - 2 };
         }
     }
     let ended = (place == NONE) & (!written | (left == 0));
     let want = if written { DONE } else { NUMBERED };
-    note(t, WALK, used, want, answer_if(want, ended, true, true));
+    note(rt, t, WALK, used, want, answer_if(want, ended, true, true))
 }
 
 // Whether each byte is what it was, but for the numbers that are written from a place on.
@@ -281,7 +290,15 @@ fn lent_append(
 }
 
 // Table k of a trial appended at a used length, in a list of so many bytes: the file with it, or as it was.
-fn try_append(t: &mut Tally, h: Held, trial: u32, k: u32, used: usize, room: usize) -> Held {
+fn try_append(
+    rt: &impl Print,
+    t: &mut Tally,
+    h: Held,
+    trial: u32,
+    k: u32,
+    used: usize,
+    room: usize,
+) -> io::Result<Held> {
     let bytes = h.bytes;
     let from = (used % 4294967296) as u32;
     let last = less(from, 16);
@@ -305,14 +322,14 @@ fn try_append(t: &mut Tally, h: Held, trial: u32, k: u32, used: usize, room: usi
     let due = if key == FINE { longest } else { none };
     let same = is_written(&bytes, &next, used, due);
     let got = answer_if(lent.answer, same, true, true);
-    note(t, APPEND, k, refusal(key), got);
+    note(rt, t, APPEND, k, refusal(key), got)?;
     let log = h.log;
     let longer = log.push(k).push((end % 4294967296) as u32);
-    Held {
+    Ok(Held {
         bytes: next,
         used: if key == FINE { end } else { h.used },
         log: if key == FINE { longer } else { log },
-    }
+    })
 }
 
 // A change of a file: at a table of its log a trailer made up, of numbers that keep the rules and ones that just break each; or a byte of its
@@ -389,7 +406,7 @@ fn changed(h: Held, trial: u32, turn: u32) -> Held {
 }
 
 // Both ways to read, and an append, at a used length and a place around the ends.
-fn try_ends(t: &mut Tally, h: Held, trial: u32, turn: u32) {
+fn try_ends(rt: &impl Print, t: &mut Tally, h: Held, trial: u32, turn: u32) -> io::Result<()> {
     let bytes = h.bytes;
     let log = h.log;
     let p = 200000 + 16 * (turn % 64);
@@ -412,18 +429,19 @@ fn try_ends(t: &mut Tally, h: Held, trial: u32, turn: u32) {
     let beyond = draw(trial, p + 6, 16) == 0;
     let i = if beyond { far } else { place as usize };
     let due = due_by_rule(two, &bytes, used, i);
-    try_read(t, READ, two, &bytes, used, i, due);
+    try_read(rt, t, READ, two, &bytes, used, i, due)?;
     let last = if used < 16 { 0 } else { used - 16 };
     let at_end = due_by_rule(two, &bytes, used, last);
-    try_read(t, LAST, two, &bytes, used, last, at_end);
+    try_read(rt, t, LAST, two, &bytes, used, last, at_end)?;
     let rooms = [2048, 2048, 2048, u, up, down];
     let room = at(&rooms, draw(trial, p + 7, 6) as usize) % 2049;
-    try_append(t, h, trial, 32 + turn % 32, used, room as usize);
+    try_append(rt, t, h, trial, 32 + turn % 32, used, room as usize)?;
+    Ok(())
 }
 
 // A file that grows by a table every third turn, each tried in just the room that it needs and in a byte less, too; in every turn, the file
 // with a change.
-pub(crate) fn try_chains(t: &mut Tally, trial: u32) {
+pub(crate) fn try_chains(rt: &impl Print, t: &mut Tally, trial: u32) -> io::Result<()> {
     let blank = Held {
         bytes: [0; 2048],
         used: 0,
@@ -432,18 +450,18 @@ pub(crate) fn try_chains(t: &mut Tally, trial: u32) {
     let mut h = changed(blank, trial, 0);
     for turn in 0..30 {
         if turn % 3 == 0 {
-            let next = try_append(t, h, trial, turn, h.used, 2048);
+            let next = try_append(rt, t, h, trial, turn, h.used, 2048)?;
             let end = next.used % 65536;
-            try_append(t, h, trial, turn, h.used, end);
+            try_append(rt, t, h, trial, turn, h.used, end)?;
             let short = if 0 < end { end - 1 } else { 0 };
-            try_append(t, h, trial, turn, h.used, short);
+            try_append(rt, t, h, trial, turn, h.used, short)?;
             h = next;
         }
         let other = changed(h, trial, turn + 1);
         let two = draw(trial, 5000 + turn, 2) == 0;
-        try_walk(t, other, trial, two, false);
-        try_ends(t, other, trial, turn);
+        try_walk(rt, t, other, trial, two, false)?;
+        try_ends(rt, t, other, trial, turn)?;
     }
-    try_walk(t, h, trial, false, true);
-    try_walk(t, h, trial, true, true);
+    try_walk(rt, t, h, trial, false, true)?;
+    try_walk(rt, t, h, trial, true, true)
 }

@@ -10,6 +10,7 @@ use drawn::draw::draw;
 use drawn::inputs::{Input, Size, long, make_input, short};
 use drawn::list::{Case, front};
 use drawn::tally::{CALLS, DIFFERENCES, INPUTS, Tally, add, count, nothing, print_input, text};
+use std::io;
 
 // The kinds of trials.
 const STRETCHES: u32 = 0;
@@ -26,14 +27,14 @@ const TEXTS: u32 = 5;
 
 const KINDS: u32 = 6;
 
-fn title(kind: u32) {
+fn title(rt: &impl Print, kind: u32) -> io::Result<()> {
     match kind {
-        LONG_QUESTIONS => text(b"long questions"),
-        WINDOWS => text(b"windows"),
-        SEASONS => text(b"seasons"),
-        CHAINS => text(b"chains"),
-        TEXTS => text(b"texts"),
-        _ => text(b"stretches"),
+        LONG_QUESTIONS => text(rt, b"long questions"),
+        WINDOWS => text(rt, b"windows"),
+        SEASONS => text(rt, b"seasons"),
+        CHAINS => text(rt, b"chains"),
+        TEXTS => text(rt, b"texts"),
+        _ => text(rt, b"stretches"),
     }
 }
 
@@ -75,24 +76,32 @@ fn input_of(kind: u32, trial: u32, se: bool) -> Input {
 }
 
 // A trial of a kind. What made a difference is written with its input.
-fn try_case(t: &mut Tally, kind: u32, case: Case, tasks: &[u32], jobs: &[u32]) {
+fn try_case(
+    rt: &impl Print,
+    t: &mut Tally,
+    kind: u32,
+    case: Case,
+    tasks: &[u32],
+    jobs: &[u32],
+) -> io::Result<()> {
     let before = count(t, DIFFERENCES);
     add(t, INPUTS, 1);
     match kind {
-        LONG_QUESTIONS => try_long(t, case, tasks, jobs),
-        WINDOWS => try_windows(t, case, tasks, jobs),
-        SEASONS => try_seasons(t, case.trial, tasks),
-        CHAINS => try_chains(t, case.trial),
-        TEXTS => try_texts(t, case.trial),
-        _ => try_stretches(t, case, tasks, jobs),
+        LONG_QUESTIONS => try_long(rt, t, case, tasks, jobs)?,
+        WINDOWS => try_windows(rt, t, case, tasks, jobs)?,
+        SEASONS => try_seasons(rt, t, case.trial, tasks)?,
+        CHAINS => try_chains(rt, t, case.trial)?,
+        TEXTS => try_texts(rt, t, case.trial)?,
+        _ => try_stretches(rt, t, case, tasks, jobs)?,
     }
     if before < count(t, DIFFERENCES) {
-        print_input(case, tasks, jobs);
+        print_input(rt, case, tasks, jobs)?;
     }
+    Ok(())
 }
 
 // One input tried. Where more entries would be lent than the longest schedule has, none is.
-fn trial_of(t: &mut Tally, kind: u32, trial: u32) {
+fn trial_of(rt: &impl Print, t: &mut Tally, kind: u32, trial: u32) -> io::Result<()> {
     let se = trial % 2 == 1;
     let inp = input_of(kind, trial, se);
     let task_list = inp.tasks;
@@ -107,39 +116,42 @@ fn trial_of(t: &mut Tally, kind: u32, trial: u32) {
         room: inp.room % 16385,
     };
     try_case(
+        rt,
         t,
         kind,
         case,
         front(&tasks, task_list.len),
         front(&jobs, job_list.len),
-    );
+    )
 }
 
 // The trials of a kind, each with a number of its own.
-fn trials(t: &mut Tally, kind: u32, n: u32) {
+fn trials(rt: &impl Print, t: &mut Tally, kind: u32, n: u32) -> io::Result<()> {
     let first = 10000000 + 200000 * (kind % 16);
     for i in 0..n {
-        trial_of(t, kind, std::num::wrapping_add_u32(first, i));
+        trial_of(rt, t, kind, std::num::wrapping_add_u32(first, i))?;
     }
+    Ok(())
 }
 
 // A group, counted by itself and into the sum of all.
-fn group(sum: &mut Tally, kind: u32) {
+fn group(rt: &impl Print, sum: &mut Tally, kind: u32) -> io::Result<()> {
     let mut t = nothing();
-    trials(&mut t, kind, how_many(kind));
-    title(kind);
-    report(&t);
+    trials(rt, &mut t, kind, how_many(kind))?;
+    title(rt, kind)?;
+    report(rt, &t)?;
     add(sum, INPUTS, count(&t, INPUTS));
     add(sum, CALLS, count(&t, CALLS));
     add(sum, DIFFERENCES, count(&t, DIFFERENCES));
+    Ok(())
 }
 
 // Every group, and the sum of them all.
-pub(crate) fn all() {
+pub(crate) fn all(rt: &impl Print) -> io::Result<()> {
     let mut sum = nothing();
     for kind in 0..KINDS {
-        group(&mut sum, kind);
+        group(rt, &mut sum, kind)?;
     }
-    text(b"all");
-    report(&sum);
+    text(rt, b"all")?;
+    report(rt, &sum)
 }

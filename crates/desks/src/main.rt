@@ -11,6 +11,8 @@ mod tally;
 mod texts;
 mod windows;
 
-fn main() {
-    groups::all();
+use std::io;
+
+fn main(rt: HostRuntime) -> io::Result<()> {
+    groups::all(&rt)
 }

@@ -12,6 +12,7 @@ use drawn::judge::{FINE, late, lists_key, refusal, tasks_key};
 use drawn::list::{ARRIVAL, OWNER, front, job, least, less, list_of, no_line, wide};
 use drawn::tally::{Tally, add, note};
 use season::{Extremes, Mean, Report, Reported, Row};
+use std::io;
 use std::num::wrapping_add_u32;
 use zsrm::{Record, Standing};
 
@@ -118,7 +119,15 @@ fn same_row(a: Row, b: Row) -> bool {
 }
 
 // A call's answer: two reports as one, or the first as it was, by the refusals before 18 or by 18 itself. Its report is handed on.
-fn check(t: &mut Tally, call: usize, key: u32, a: Report, b: Report, got: Reported) -> Report {
+fn check(
+    rt: &impl Print,
+    t: &mut Tally,
+    call: usize,
+    key: u32,
+    a: Report,
+    b: Report,
+    got: Reported,
+) -> io::Result<Report> {
     let due = joined(a, b);
     let first = least(key, late(due.over, 18));
     let want = if first == FINE { due.report } else { a };
@@ -129,16 +138,17 @@ fn check(t: &mut Tally, call: usize, key: u32, a: Report, b: Report, got: Report
         same = same_row(report.rows[k], want.rows[k]) & same;
     }
     note(
+        rt,
         t,
         call,
         a.tasks,
         refusal(first),
         answer_if(of_outcome(outcome), true, true, same),
-    );
+    )?;
     if (key == FINE) & due.over & (a.tasks == b.tasks) {
         add(t, call % 1024 + 1, 1);
     }
-    report
+    Ok(report)
 }
 
 // A task's row with one more of its jobs.
@@ -192,7 +202,7 @@ fn own_report(rec: Record, se: bool, tasks: &[u32], jobs: &[u32]) -> Report {
 
 // A run added, at times in the other mode or with a record that was altered. Whether that is consistent is asked of the library, by a job that
 // is in no list.
-fn try_add(t: &mut Tally, a: Report, inp: Input, seed: u32) -> Report {
+fn try_add(rt: &impl Print, t: &mut Tally, a: Report, inp: Input, seed: u32) -> io::Result<Report> {
     let task_list = inp.tasks;
     let job_list = inp.jobs;
     let own_tasks = task_list.at;
@@ -224,18 +234,32 @@ fn try_add(t: &mut Tally, a: Report, inp: Input, seed: u32) -> Report {
     let unfit = late(of_verdict(far) == refused(11, 0), 11);
     let own = own_report(rec, se, tasks, jobs);
     let got = a.add(rec, mode_of(se), tasks, jobs);
-    check(t, ADD, least(lists_key(tasks, jobs), unfit), a, own, got)
+    check(
+        rt,
+        t,
+        ADD,
+        least(lists_key(tasks, jobs), unfit),
+        a,
+        own,
+        got,
+    )
 }
 
 // A report with one more run of the table, of few jobs or of many, in either mode; one in six has a damaged list.
-fn with_run(t: &mut Tally, report: Report, seed: u32, tasks: &[u32]) -> Report {
+fn with_run(
+    rt: &impl Print,
+    t: &mut Tally,
+    report: Report,
+    seed: u32,
+    tasks: &[u32],
+) -> io::Result<Report> {
     let mut size = short(seed, draw(seed, 1802, 10) == 0);
     size.tasks = ((tasks.len() / 7) % 64) as u32;
     let whole = make_day(list_of(tasks), seed, draw(seed, 1803, 2) == 0, size);
     if draw(seed, 75, 6) == 0 {
-        return try_add(t, report, damaged(whole, seed, 20000), seed);
+        return try_add(rt, t, report, damaged(whole, seed, 20000), seed);
     }
-    try_add(t, report, whole, seed)
+    try_add(rt, t, report, whole, seed)
 }
 
 // Whether least and greatest of a row are given where a job finished, and there alone.
@@ -249,17 +273,17 @@ fn right_extremes(row: Row) -> bool {
 }
 
 // The mean of a row: there is one where a job finished, and from it the sum is had again. Least and greatest are looked at with it.
-fn try_mean(t: &mut Tally, row: Row) {
+fn try_mean(rt: &impl Print, t: &mut Tally, row: Row) -> io::Result<()> {
     let due = if row.finished == 0 { 0 } else { 1 };
     let both = right_extremes(row);
     let Mean::Of(quotient, remainder, n) = season::mean(row) else {
-        note(t, MEAN, 0, due, answer_if(0, true, true, both));
-        return;
+        note(rt, t, MEAN, 0, due, answer_if(0, true, true, both))?;
+        return Ok(());
     };
     let whole = wide(quotient) * wide(n);
     let right = (remainder <= row.sum) & (whole == wide(less(row.sum, remainder)));
     let below = (remainder < n) & (n == row.finished);
-    note(t, MEAN, n, due, answer_if(1, right, below, both));
+    note(rt, t, MEAN, n, due, answer_if(1, right, below, both))
 }
 
 // What a report is shown in.
@@ -316,7 +340,7 @@ fn after(text: &Text, from: usize, what: u64) -> usize {
 }
 
 // A report's text, what stood behind it, and the means of its rows.
-fn try_show(t: &mut Tally, report: Report) {
+fn try_show(rt: &impl Print, t: &mut Tally, report: Report) -> io::Result<()> {
     let mut out = [46u8; 2048];
     let n = season::show(report, &mut out);
     let mut at: usize = 0;
@@ -333,30 +357,36 @@ fn try_show(t: &mut Tally, report: Report) {
             at = after(&out, at, 46);
         }
         if i < 16 {
-            try_mean(t, report.rows[i]);
+            try_mean(rt, t, report.rows[i])?;
         }
     }
     let lines = least(report.tasks, 1) as u64;
     let right = (n == end) & (at == 2048);
     note(
+        rt,
         t,
         SHOW,
         report.tasks,
         lines,
         answer_if(lines, right, true, true),
-    );
+    )
 }
 
 // Two reports of a table's runs and two that were made up, mostly of as many tasks: each is joined to each, shown, and has a run added.
-pub(crate) fn try_seasons(t: &mut Tally, trial: u32, tasks: &[u32]) {
+pub(crate) fn try_seasons(
+    rt: &impl Print,
+    t: &mut Tally,
+    trial: u32,
+    tasks: &[u32],
+) -> io::Result<()> {
     let seed = 16 * (trial % 100000000);
     let key = tasks_key(tasks);
     let count = ((tasks.len() / 7) % 64) as u32;
     let zero = made_up(if key == FINE { count } else { 0 }, 0, 0, 0);
-    let begun = check(t, EMPTY, key, zero, zero, Report::empty(tasks));
-    let one = with_run(t, begun, seed + 1, tasks);
-    let two = with_run(t, one, seed + 2, tasks);
-    let other = with_run(t, begun, seed + 3, tasks);
+    let begun = check(rt, t, EMPTY, key, zero, zero, Report::empty(tasks))?;
+    let one = with_run(rt, t, begun, seed + 1, tasks)?;
+    let two = with_run(rt, t, one, seed + 2, tasks)?;
+    let other = with_run(rt, t, begun, seed + 3, tasks)?;
     let n = match draw(seed, 1806, 12) {
         0 => 17,
         1 => 4294967295,
@@ -371,10 +401,11 @@ pub(crate) fn try_seasons(t: &mut Tally, trial: u32, tasks: &[u32]) {
     for i in 0..16 {
         let a = all[i / 4];
         let b = all[i % 4];
-        check(t, JOIN, FINE, a, b, a.join(b));
+        check(rt, t, JOIN, FINE, a, b, a.join(b))?;
         if i < 4 {
-            try_show(t, b);
-            with_run(t, b, seed + 4 + (i % 4) as u32, tasks);
+            try_show(rt, t, b)?;
+            with_run(rt, t, b, seed + 4 + (i % 4) as u32, tasks)?;
         }
     }
+    Ok(())
 }

@@ -10,6 +10,7 @@ use drawn::judge::{FINE, late, refusal, schedule_key};
 use drawn::list::{Case, IDLE, Line, at, front, front_of_line, least, less, no_line, wide};
 use drawn::tally::{Tally, add, note};
 use index::Count;
+use std::io;
 
 // Horizons around the multiples of 64, the longest now and then, else one that is drawn.
 pub(crate) fn horizon_of(trial: u32) -> u32 {
@@ -77,13 +78,14 @@ fn key_of(
 
 // The index of a schedule: every number, or all of them as they were, and nothing past it.
 fn try_build(
+    rt: &impl Print,
     t: &mut Tally,
     case: Case,
     tasks: &[u32],
     jobs: &[u32],
     line: Line,
     size: usize,
-) -> Held {
+) -> io::Result<Held> {
     let last = case.horizon / 64 * 64;
     let strange = 0 < ticks_with(&line, tasks, jobs, NEITHER, 0, least(16384, last));
     let key = key_of(tasks, jobs, case, size, false, strange);
@@ -95,13 +97,13 @@ fn try_build(
     let outcome = index::build(tasks, jobs, case.horizon, schedule, &mut rows[0..n]);
     let right = alike(&line, &rows, &line, &due);
     let got = answer_if(of_outcome(outcome), true, right, true);
-    note(t, BUILD, 0, refusal(key), got);
-    Held {
+    note(rt, t, BUILD, 0, refusal(key), got)?;
+    Ok(Held {
         line,
         rows,
         size,
         built,
-    }
+    })
 }
 
 // An end's count: the number of its last row, and the entries since; beyond every horizon where one of those is neither job nor idle.
@@ -123,6 +125,7 @@ fn of_count(count: Count) -> u64 {
 
 // One range: its answer must be the first end's count taken from the second's; where the index was built, that must be a fresh count.
 fn try_range(
+    rt: &impl Print,
     t: &mut Tally,
     case: Case,
     tasks: &[u32],
@@ -131,7 +134,7 @@ fn try_range(
     c: u32,
     a: u32,
     b: u32,
-) {
+) -> io::Result<()> {
     let line = h.line;
     let rows = h.rows;
     let entries = front_of_line(&line, case.room);
@@ -153,12 +156,13 @@ fn try_range(
     let other = done & (n != ticks_with(&line, tasks, jobs, c, a, b));
     let right = !(h.built & other);
     note(
+        rt,
         t,
         BETWEEN,
         c,
         due,
         answer_if(of_count(got), right, true, true),
-    );
+    )?;
     if other {
         add(t, NOT_FRESH, 1);
     }
@@ -166,10 +170,12 @@ fn try_range(
         add(t, READ_AFRESH, less(b, a));
         add(t, READ_SINCE, a % 64 + b % 64);
     }
+    Ok(())
 }
 
 // So many ranges; some reach beyond the tasks and the horizon, by so much.
 fn try_ranges(
+    rt: &impl Print,
     t: &mut Tally,
     case: Case,
     tasks: &[u32],
@@ -178,7 +184,7 @@ fn try_ranges(
     place: u32,
     n: u32,
     beyond: u32,
-) {
+) -> io::Result<()> {
     for q in 0..n {
         let from = 400000 + 8192 * (place % 1024) + 8 * (q % 1024);
         let more = least(2, beyond);
@@ -186,12 +192,14 @@ fn try_ranges(
         let c = draw(case.trial, from, columns + more);
         let b = draw(case.trial, from + 1, case.horizon % 65536 + 1 + more);
         let a = draw(case.trial, from + 2, b + 1 + more);
-        try_range(t, case, tasks, jobs, h, c, a, b);
+        try_range(rt, t, case, tasks, jobs, h, c, a, b)?;
     }
+    Ok(())
 }
 
 // One entry replaced: the schedule and the index then, or both as they were. Where the index was built, it must be that of the schedule.
 fn try_replace(
+    rt: &impl Print,
     t: &mut Tally,
     case: Case,
     tasks: &[u32],
@@ -199,7 +207,7 @@ fn try_replace(
     h: Held,
     tick: u32,
     entry: u16,
-) -> Held {
+) -> io::Result<Held> {
     let mut line = h.line;
     let mut rows = h.rows;
     let room = case.room % 16385;
@@ -216,20 +224,27 @@ fn try_replace(
     let afresh = index_of(&line, tasks, jobs, if h.built { h.size } else { 0 });
     let fresh = !(h.built & done) | alike(&line, &rows, &line, &afresh);
     let got = answer_if(of_outcome(outcome), right, fresh, true);
-    note(t, REPLACE, tick, refusal(key), got);
+    note(rt, t, REPLACE, tick, refusal(key), got)?;
     if done & due.same {
         add(t, SAME_COLUMN, 1);
     }
-    Held {
+    Ok(Held {
         line,
         rows,
         size: h.size,
         built: h.built,
-    }
+    })
 }
 
 // Some entries replaced, one after the other, in one trial of forty 200; with questions before each and after the last.
-fn try_replacements(t: &mut Tally, case: Case, tasks: &[u32], jobs: &[u32], first: Held) {
+fn try_replacements(
+    rt: &impl Print,
+    t: &mut Tally,
+    case: Case,
+    tasks: &[u32],
+    jobs: &[u32],
+    first: Held,
+) -> io::Result<()> {
     let n = ((jobs.len() / 3) % 100) as u32;
     let many = draw(case.trial, 1604, 40) == 0;
     let wanted = if many { 200 } else { 4 };
@@ -241,10 +256,10 @@ fn try_replacements(t: &mut Tally, case: Case, tasks: &[u32], jobs: &[u32], firs
         let e = draw(case.trial, place + 1, n % 100 + 2);
         let idle = draw(case.trial, place + 2, 4) == 0;
         let entry = if idle { IDLE } else { (e % 128) as u16 };
-        try_ranges(t, case, tasks, jobs, h, i, 6, 2);
-        h = try_replace(t, case, tasks, jobs, h, tick, entry);
+        try_ranges(rt, t, case, tasks, jobs, h, i, 6, 2)?;
+        h = try_replace(rt, t, case, tasks, jobs, h, tick, entry)?;
     }
-    try_ranges(t, case, tasks, jobs, h, times, 6, 2);
+    try_ranges(rt, t, case, tasks, jobs, h, times, 6, 2)
 }
 
 // An index made up: every number drawn, or, every other time, one number of an index that was built made another.
@@ -276,7 +291,13 @@ fn made_up(h: Held, case: Case) -> Held {
 
 // A schedule and its index, of a wrong length one time in twelve, with replacements and questions; then others, by draws of their own, with an
 // index that is made up.
-pub(crate) fn try_stretches(t: &mut Tally, case: Case, tasks: &[u32], jobs: &[u32]) {
+pub(crate) fn try_stretches(
+    rt: &impl Print,
+    t: &mut Tally,
+    case: Case,
+    tasks: &[u32],
+    jobs: &[u32],
+) -> io::Result<()> {
     let right = place_of(tasks, case.horizon / 64 + 1, 0);
     let size = match draw(case.trial, 1601, 24) {
         0 => right % 65536 + 1,
@@ -284,17 +305,23 @@ pub(crate) fn try_stretches(t: &mut Tally, case: Case, tasks: &[u32], jobs: &[u3
         _ => right,
     };
     let line = schedule_of(case, tasks, jobs);
-    let h = try_build(t, case, tasks, jobs, line, size);
-    try_replacements(t, case, tasks, jobs, h);
+    let h = try_build(rt, t, case, tasks, jobs, line, size)?;
+    try_replacements(rt, t, case, tasks, jobs, h)?;
     let mut again = case;
     again.trial = std::num::wrapping_add_u32(case.trial, 5000000);
-    try_replacements(t, again, tasks, jobs, made_up(h, again));
+    try_replacements(rt, t, again, tasks, jobs, made_up(h, again))
 }
 
 // A thousand questions about one long schedule.
-pub(crate) fn try_long(t: &mut Tally, case: Case, tasks: &[u32], jobs: &[u32]) {
+pub(crate) fn try_long(
+    rt: &impl Print,
+    t: &mut Tally,
+    case: Case,
+    tasks: &[u32],
+    jobs: &[u32],
+) -> io::Result<()> {
     let size = place_of(tasks, case.horizon / 64 + 1, 0);
     let line = schedule_of(case, tasks, jobs);
-    let h = try_build(t, case, tasks, jobs, line, size);
-    try_ranges(t, case, tasks, jobs, h, 0, 1000, 0);
+    let h = try_build(rt, t, case, tasks, jobs, line, size)?;
+    try_ranges(rt, t, case, tasks, jobs, h, 0, 1000, 0)
 }

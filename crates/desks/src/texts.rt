@@ -9,6 +9,7 @@ use drawn::answers::{DONE, answer_if};
 use drawn::draw::draw;
 use drawn::list::{List, at, front, less, list_of, wide};
 use drawn::tally::{Tally, add, note};
+use std::io;
 use text::Number;
 
 // The bytes that are read or written.
@@ -190,7 +191,14 @@ fn seen_of(number: Number, from: usize) -> Seen {
 }
 
 // The number at a place, of up to ten digits or five.
-fn try_number(t: &mut Tally, call: usize, page: &Page, len: usize, from: usize) {
+fn try_number(
+    rt: &impl Print,
+    t: &mut Tally,
+    call: usize,
+    page: &Page,
+    len: usize,
+    from: usize,
+) -> io::Result<()> {
     let bytes = front_bytes(page, len);
     let most = if call == WIDE { 10 } else { 5 };
     let number = if call == WIDE {
@@ -205,13 +213,15 @@ fn try_number(t: &mut Tally, call: usize, page: &Page, len: usize, from: usize) 
     let answer = if 0 < got.length { DONE } else { MALFORMED };
     let whole = !good | (got.length == (d.count as usize));
     note(
+        rt,
         t,
         call,
         (from % 65536) as u32,
         want,
         answer_if(answer, !good | d.spell, whole, true),
-    );
+    )?;
     count_digits(t, call % 1024, d, most, good);
+    Ok(())
 }
 
 // What stood at a place, beside whether it is a number.
@@ -232,17 +242,18 @@ fn count_digits(t: &mut Tally, call: usize, d: Digits, most: u32, good: bool) {
 }
 
 // A text read at each of its places, at its end, behind it, and behind every list.
-fn try_reads(t: &mut Tally, trial: u32) {
+fn try_reads(rt: &impl Print, t: &mut Tally, trial: u32) -> io::Result<()> {
     let list = some_text(trial);
     let page = bytes_of(list);
     let n = list.len;
     for k in 0..60 {
         let from = if k == 59 { FAR } else { k };
         if (k <= n % 256 + 1) | (k == 59) {
-            try_number(t, WIDE, &page, n, from);
-            try_number(t, DECIMAL, &page, n, from);
+            try_number(rt, t, WIDE, &page, n, from)?;
+            try_number(rt, t, DECIMAL, &page, n, from)?;
         }
     }
+    Ok(())
 }
 
 // So many numbers of 32 bits.
@@ -333,7 +344,7 @@ fn lent_room(seed: u32, from: u32, n: u32) -> u32 {
 }
 
 // One call of a writer. Of what it puts as many bytes are written as there is room for, and its answer is the position after them.
-fn try_put(t: &mut Tally, call: usize, seed: u32) {
+fn try_put(rt: &impl Print, t: &mut Tally, call: usize, seed: u32) -> io::Result<()> {
     let many = if call == PUT_NUMBERS {
         draw(seed, 122, 13)
     } else {
@@ -360,22 +371,25 @@ fn try_put(t: &mut Tally, call: usize, seed: u32) {
     let same = is_put(&page, from, due, written);
     let moved = (from <= next) & (past(next, from) == written);
     note(
+        rt,
         t,
         call,
         (written % 256) as u32,
         want,
         answer_if(want, same, moved, true),
-    );
+    )?;
     if (0 < n) & (space == n) {
         add(t, call % 1600 + IN_JUST_ROOM, 1);
     }
+    Ok(())
 }
 
 // A text read, and each of the four writers called four times.
-pub(crate) fn try_texts(t: &mut Tally, trial: u32) {
-    try_reads(t, trial);
+pub(crate) fn try_texts(rt: &impl Print, t: &mut Tally, trial: u32) -> io::Result<()> {
+    try_reads(rt, t, trial)?;
     for turn in 0u32..16 {
         let call = PUT_BYTE + 64 * (turn % 4) as usize;
-        try_put(t, call, 16 * (trial % 100000000) + turn % 16);
+        try_put(rt, t, call, 16 * (trial % 100000000) + turn % 16)?;
     }
+    Ok(())
 }

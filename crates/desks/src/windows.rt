@@ -8,6 +8,7 @@ use drawn::draw::draw;
 use drawn::judge::{FINE, late, lists_key, refusal};
 use drawn::list::{Case, List, OWNER, at, job, least, list_of, no_line};
 use drawn::tally::{Tally, add, note};
+use std::io;
 use window::Windows;
 use zsrm::{Mode, Ran, Record, Tie};
 
@@ -174,6 +175,7 @@ fn count_beside(t: &mut Tally, own: Own, due: Judged, k: u32) {
 
 // One question, its answer against the count.
 fn try_question(
+    rt: &impl Print,
     t: &mut Tally,
     rec: Record,
     case: Case,
@@ -181,7 +183,7 @@ fn try_question(
     jobs: &[u32],
     all: List,
     q: Question,
-) {
+) -> io::Result<()> {
     let key = key_of(rec, tasks, jobs, q);
     let own = own_jobs(jobs, all, q.task);
     let due = if key == FINE {
@@ -197,8 +199,9 @@ fn try_question(
     let got = of_windows(window::judge(rec, mode, tasks, jobs, q.task, q.m, q.k));
     let same = (got.misses == due.misses) & (got.opens == due.opens);
     let answer = answer_if(got.answer, true, true, same);
-    note(t, JUDGE, q.task, due.answer, answer);
+    note(rt, t, JUDGE, q.task, due.answer, answer)?;
     count_beside(t, own, due, q.k);
+    Ok(())
 }
 
 // A run with so many entries lent, or all where there are fewer.
@@ -231,7 +234,13 @@ fn record_of(ran: Ran, tasks: &[u32], jobs: &[u32]) -> Record {
 }
 
 // Some questions about a run's record, one time in ten about one beyond the last tick.
-pub(crate) fn try_windows(t: &mut Tally, case: Case, tasks: &[u32], jobs: &[u32]) {
+pub(crate) fn try_windows(
+    rt: &impl Print,
+    t: &mut Tally,
+    case: Case,
+    tasks: &[u32],
+    jobs: &[u32],
+) -> io::Result<()> {
     let mut line = no_line();
     let ran = lent_run(
         mode_of(case.se),
@@ -249,6 +258,7 @@ pub(crate) fn try_windows(t: &mut Tally, case: Case, tasks: &[u32], jobs: &[u32]
     let all = fates(rec, case, tasks, jobs);
     for i in 0..24 {
         let q = a_question(case.trial, tasks, i);
-        try_question(t, rec, case, tasks, jobs, all, q);
+        try_question(rt, t, rec, case, tasks, jobs, all, q)?;
     }
+    Ok(())
 }

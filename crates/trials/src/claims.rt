@@ -14,6 +14,7 @@ use drawn::list::{
     of, wide,
 };
 use drawn::tally::{DIFFERENCES, Tally, add, count, note, print_line};
+use std::io;
 
 // What must be answered to a claim: a refusal, legal, or not legal at a tick.
 pub(crate) fn claim_answer(key: u32, bad: u32) -> u64 {
@@ -83,6 +84,7 @@ fn of_part(length: usize) -> u64 {
 }
 
 fn try_witness(
+    rt: &impl Print,
     t: &mut Tally,
     case: Case,
     tasks: &[u32],
@@ -91,26 +93,28 @@ fn try_witness(
     replay: Replay,
     taken: u32,
     j: u32,
-) {
+) -> io::Result<()> {
     let mode = mode_of(case.se);
     let key = least(taken, late(jobs.len() / 3 <= (j as usize), 13));
     let want = witness_answer(replay, key, tasks, jobs, j);
     let got = of_witness(zsrm::witness(mode, tasks, jobs, case.horizon, line, j));
-    note(t, WITNESS, j, want, got);
+    note(rt, t, WITNESS, j, want, got)?;
     let part = zsrm::response(mode_of(case.se), tasks, jobs, case.horizon, line, j);
     let same = alike(part, line, job(jobs, (j % 64) as usize, ARRIVAL));
     let length = part_length(replay, key, jobs, j) as usize;
     note(
+        rt,
         t,
         PART,
         j,
         of_part(length),
         answer_if(of_part(part.len()), same, true, true),
-    );
+    )
 }
 
 // The witness and the part of two jobs beyond the list, and of every job before them, or of those so many apart.
 fn try_witnesses(
+    rt: &impl Print,
     t: &mut Tally,
     case: Case,
     tasks: &[u32],
@@ -119,19 +123,21 @@ fn try_witnesses(
     replay: Replay,
     key: u32,
     between: usize,
-) {
+) -> io::Result<()> {
     let n = jobs.len() / 3;
-    try_witness(t, case, tasks, jobs, line, replay, key, FAR_JOB);
+    try_witness(rt, t, case, tasks, jobs, line, replay, key, FAR_JOB)?;
     for j in 0..65 {
         let i = j as usize;
         if (i == n) | (i < n) & (i % (between % 64 + 1) == 0) {
-            try_witness(t, case, tasks, jobs, line, replay, key, j);
+            try_witness(rt, t, case, tasks, jobs, line, replay, key, j)?;
         }
     }
+    Ok(())
 }
 
 // A claim of a kind, its witnesses, its parts and its mending.
 fn try_claim(
+    rt: &impl Print,
     t: &mut Tally,
     case: Case,
     tasks: &[u32],
@@ -140,21 +146,22 @@ fn try_claim(
     own: &Line,
     call: usize,
     between: usize,
-) {
+) -> io::Result<()> {
     let before = count(t, DIFFERENCES);
     let line = front_of_line(all, case.room);
     let key = schedule_key(tasks, jobs, case.horizon, line.len());
     let replay = replayed(case.se, tasks, jobs, ticks_of(key, case.horizon), line);
     let got = of_claim(zsrm::claim(mode_of(case.se), tasks, jobs, case.horizon, line));
-    note(t, call, 0, claim_answer(key, replay.bad), got);
-    try_witnesses(t, case, tasks, jobs, line, replay, key, between);
-    try_mend(t, case, tasks, jobs, line, replay, own);
+    note(rt, t, call, 0, claim_answer(key, replay.bad), got)?;
+    try_witnesses(rt, t, case, tasks, jobs, line, replay, key, between)?;
+    try_mend(rt, t, case, tasks, jobs, line, replay, own)?;
     if alike(line, own, 0) == false {
         add(t, call % 1664 + UNLIKE_OURS, 1);
     }
     if before < count(t, DIFFERENCES) {
-        print_line(line);
+        print_line(rt, line)?;
     }
+    Ok(())
 }
 
 // The kinds of claims: our run, the run that takes the last of equals, and our run with one of six changes; every other time the last four
@@ -192,6 +199,7 @@ pub(crate) fn make_claim(
 }
 
 pub(crate) fn try_claims(
+    rt: &impl Print,
     t: &mut Tally,
     case: Case,
     tasks: &[u32],
@@ -199,13 +207,14 @@ pub(crate) fn try_claims(
     own: &Line,
     ticks: u32,
     between: usize,
-) {
+) -> io::Result<()> {
     let mut line = no_line();
     for kind in 0..8 {
         if claimed(kind, ticks, case.trial) {
             make_claim(case, tasks, jobs, kind, ticks, &mut line);
             let call = CLAIM + 64 * ((kind % 8) as usize);
-            try_claim(t, case, tasks, jobs, &line, own, call, between);
+            try_claim(rt, t, case, tasks, jobs, &line, own, call, between)?;
         }
     }
+    Ok(())
 }

@@ -18,6 +18,7 @@ use drawn::list::{
 };
 use drawn::tally::{Tally, add, note};
 use planter::{Admission, Change};
+use std::io;
 use zsrm::{Ran, Record};
 
 // Down-force, depth, log: the numbers of the request.
@@ -99,7 +100,15 @@ fn lent_day(case: Case, jobs: &[u32], line: &mut [u16]) -> Ran {
 
 // What is promised of a down-force job that is due by the horizon: it is met and not missed, it finished by its arrival + 12 + its execution
 // time, and it was never suspended.
-fn try_promise(t: &mut Tally, case: Case, jobs: &[u32], rec: Record, line: &[u16], j: usize) {
+fn try_promise(
+    rt: &impl Print,
+    t: &mut Tally,
+    case: Case,
+    jobs: &[u32],
+    rec: Record,
+    line: &[u16],
+    j: usize,
+) -> io::Result<()> {
     let i = (j % 64) as u32;
     let a = wide(job(jobs, j, ARRIVAL));
     let place = rec.places[j % 64];
@@ -111,17 +120,20 @@ fn try_promise(t: &mut Tally, case: Case, jobs: &[u32], rec: Record, line: &[u16
         let witness = of_witness(planter::witness(mode_of(case.se), jobs, case.horizon, line, i));
         let through = (fate % 4 == 1) & (fate / 4 <= by) & (place.suspended == 0);
         note(
+            rt,
             t,
             PROMISED,
             i,
             MET,
             answer_if(verdict, true, witness == NOT_MISSED, through),
-        );
+        )?;
     }
+    Ok(())
 }
 
 // The verdicts on the jobs of a day that is done, and what is promised.
 fn try_jobs(
+    rt: &impl Print,
     t: &mut Tally,
     case: Case,
     tasks: &[u32],
@@ -129,7 +141,7 @@ fn try_jobs(
     rec: Record,
     all: &Line,
     end: Sim,
-) {
+) -> io::Result<()> {
     let line = front_of_line(all, case.room);
     let judged = planter::verdicts(rec, mode_of(case.se), jobs);
     let outcome = judged.outcome;
@@ -141,14 +153,16 @@ fn try_jobs(
             let verdict = one.verdict;
             let want = verdict_of(end, tasks, jobs, i);
             let got = answer_if(of_verdict(verdict), true, told, true);
-            note(t, DAY_VERDICT, i, want, got);
-            try_promise(t, case, jobs, rec, line, j);
+            note(rt, t, DAY_VERDICT, i, want, got)?;
+            try_promise(rt, t, case, jobs, rec, line, j)?;
         }
     }
+    Ok(())
 }
 
 // The change of one job, by the simulator: 13 where a list has no such job; 0 in a refused admission, of which both lists come empty.
 fn try_change(
+    rt: &impl Print,
     t: &mut Tally,
     tasks: &[u32],
     jobs: &[u32],
@@ -157,7 +171,7 @@ fn try_change(
     with: Sim,
     change: Change,
     j: u32,
-) {
+) -> io::Result<()> {
     let before = change.before;
     let after = change.after;
     let n = jobs.len() / 3;
@@ -178,16 +192,18 @@ fn try_change(
         none
     };
     let right = (of_verdict(before) == own) & (of_verdict(after) == new);
-    note(t, DAY, j, 0, answer_if(0, true, true, right));
+    note(rt, t, DAY, j, 0, answer_if(0, true, true, right))?;
     if (i < n) & (own != new) {
         add(t, CHANGED, 1);
         if new == ENDED {
             add(t, TO_ENDED, 1);
         }
     }
+    Ok(())
 }
 
 fn try_changes(
+    rt: &impl Print,
     t: &mut Tally,
     tasks: &[u32],
     jobs: &[u32],
@@ -195,12 +211,13 @@ fn try_changes(
     without: Sim,
     with: Sim,
     got: Admission,
-) {
+) -> io::Result<()> {
     for j in 0..64 {
         let change = got.changes[j];
         let i = (j % 64) as u32;
-        try_change(t, tasks, jobs, longer, without, with, change, i);
+        try_change(rt, t, tasks, jobs, longer, without, with, change, i)?;
     }
+    Ok(())
 }
 
 // The list with one more job: most often a depth job that fits, else one of any task, or of none, that may come too soon or run for too long.
@@ -224,7 +241,13 @@ fn offered(trial: u32, jobs: &[u32]) -> List {
 }
 
 // One more job is offered.
-fn try_admission(t: &mut Tally, case: Case, tasks: &[u32], jobs: &[u32]) {
+fn try_admission(
+    rt: &impl Print,
+    t: &mut Tally,
+    case: Case,
+    tasks: &[u32],
+    jobs: &[u32],
+) -> io::Result<()> {
     let list = offered(case.trial, jobs);
     let numbers = list.at;
     let longer = front(&numbers, list.len);
@@ -244,21 +267,28 @@ fn try_admission(t: &mut Tally, case: Case, tasks: &[u32], jobs: &[u32]) {
     let after = held_jobs(longer, key);
     let counted = (got.count as usize) == after.len() / 3;
     note(
+        rt,
         t,
         ADMIT,
         at(longer, n),
         refusal(key),
         answer_if(of_outcome(outcome), true, counted, true),
-    );
+    )?;
     let mut line = no_line();
     let ticks = ticks_of(key, h);
     let without = fly(case.se, tasks, before, ticks, STAYING, &mut line);
     let with = fly(case.se, tasks, after, ticks, STAYING, &mut line);
-    try_changes(t, tasks, before, after, without, with, got);
+    try_changes(rt, t, tasks, before, after, without, with, got)
 }
 
 // One day: its run, its verdicts, and one more job.
-pub(crate) fn try_day(t: &mut Tally, case: Case, tasks: &[u32], jobs: &[u32]) {
+pub(crate) fn try_day(
+    rt: &impl Print,
+    t: &mut Tally,
+    case: Case,
+    tasks: &[u32],
+    jobs: &[u32],
+) -> io::Result<()> {
     let key = schedule_key(tasks, jobs, case.horizon, case.room);
     let held = held_jobs(jobs, key);
     let ticks = ticks_of(key, case.horizon);
@@ -271,14 +301,15 @@ pub(crate) fn try_day(t: &mut Tally, case: Case, tasks: &[u32], jobs: &[u32]) {
     let same = holds(rec, held, end);
     let lent = begin_alike(&line, &own, case.room);
     note(
+        rt,
         t,
         DAY,
         0,
         refusal(key),
         answer_if(of_outcome(outcome), lent, true, same),
-    );
+    )?;
     if key == FINE {
-        try_jobs(t, case, tasks, jobs, rec, &own, end);
+        try_jobs(rt, t, case, tasks, jobs, rec, &own, end)?;
     }
-    try_admission(t, case, tasks, jobs);
+    try_admission(rt, t, case, tasks, jobs)
 }

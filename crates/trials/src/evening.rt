@@ -10,6 +10,7 @@ use drawn::inputs::{make_day, short};
 use drawn::judge::{FINE, jobs_key, refusal, tasks_key};
 use drawn::list::{Case, Line, List, at, front, front_of_line, least, list_of, no_line};
 use drawn::tally::{DIFFERENCES, Tally, add, count, note, numbers};
+use std::io;
 use zsrm::Tie;
 
 // What an evening tries: a flat list of jobs, how many jobs each run has, the horizon, and how many entries are lent.
@@ -187,6 +188,7 @@ fn fault_of(tasks: &[u32], jobs: &[u32], counts: &[u32], horizon: u32, room: u32
 
 // One run of a batch that is done: its record and its part of the list are those of a call by itself.
 fn try_single(
+    rt: &impl Print,
     t: &mut Tally,
     case: Case,
     tasks: &[u32],
@@ -196,7 +198,7 @@ fn try_single(
     got: Batch,
     r: usize,
     place: u32,
-) {
+) -> io::Result<()> {
     let h = horizon as usize;
     let mut one = no_line();
     let ran = lent_run(
@@ -212,16 +214,18 @@ fn try_single(
     let lent = alike(front_of_line(&one, h), line, place);
     let same = same_record(got.records[r % 32], ran.record);
     note(
+        rt,
         t,
         BATCH_RUN,
         (r % 64) as u32,
         DONE,
         answer_if(of_outcome(outcome), lent, true, same),
-    );
+    )
 }
 
 // The runs of a batch that is done, so many, and the records of those that there are not; of a refused one there is none.
 fn try_runs(
+    rt: &impl Print,
     t: &mut Tally,
     case: Case,
     tasks: &[u32],
@@ -231,24 +235,26 @@ fn try_runs(
     line: &Line,
     got: Batch,
     n: usize,
-) {
+) -> io::Result<()> {
     let mut place: u32 = 0;
     for r in 0..32 {
         if r < n {
             let own = list_at(jobs, counts, r);
-            try_single(t, case, tasks, own, horizon, line, got, r, place);
+            try_single(rt, t, case, tasks, own, horizon, line, got, r, place)?;
             place = place % 1048576 + horizon % 65536;
         } else {
             let none = same_record(got.records[r], blank());
             note(
+                rt,
                 t,
                 BLANK,
                 (r % 64) as u32,
                 DONE,
                 answer_if(DONE, true, true, none),
-            );
+            )?;
         }
     }
+    Ok(())
 }
 
 // Lends so many entries of a line, or all where it has fewer.
@@ -282,6 +288,7 @@ fn wrong_table(tasks: List, trial: u32) -> List {
 
 // One batch: its answer, the runs that it made, and what it left untouched.
 fn try_batch(
+    rt: &impl Print,
     t: &mut Tally,
     case: Case,
     tasks: &[u32],
@@ -289,7 +296,7 @@ fn try_batch(
     counts: &[u32],
     horizon: u32,
     room: u32,
-) {
+) -> io::Result<()> {
     let before = count(t, DIFFERENCES);
     let fault = fault_of(tasks, jobs, counts, horizon, room);
     let untouched = no_line();
@@ -301,27 +308,35 @@ fn try_batch(
     let kept = done | begin_alike(&line, &untouched, 16384);
     let named = got.run == fault.run;
     let answer = answer_if(of_outcome(outcome), kept, named, true);
-    note(t, BATCH, fault.run, fault.answer, answer);
+    note(rt, t, BATCH, fault.run, fault.answer, answer)?;
     if done & (counts.len() == 0) {
         add(t, NO_RUNS, 1);
     }
     let n = if done { counts.len() } else { 0 };
-    try_runs(t, case, tasks, jobs, counts, horizon, &line, got, n);
+    try_runs(rt, t, case, tasks, jobs, counts, horizon, &line, got, n)?;
     if before < count(t, DIFFERENCES) {
-        numbers(b"  the batch's table", tasks);
-        numbers(b"  jobs", jobs);
-        numbers(b"  counts", counts);
-        numbers(b"  horizon and entries", &[horizon, room]);
+        numbers(rt, b"  the batch's table", tasks)?;
+        numbers(rt, b"  jobs", jobs)?;
+        numbers(rt, b"  counts", counts)?;
+        numbers(rt, b"  horizon and entries", &[horizon, room])?;
     }
+    Ok(())
 }
 
 // The lists of an evening, lent.
-fn try_lists(t: &mut Tally, case: Case, tasks: &[u32], e: Evening) {
+fn try_lists(
+    rt: &impl Print,
+    t: &mut Tally,
+    case: Case,
+    tasks: &[u32],
+    e: Evening,
+) -> io::Result<()> {
     let job_list = e.jobs;
     let count_list = e.counts;
     let jobs = job_list.at;
     let counts = count_list.at;
     try_batch(
+        rt,
         t,
         case,
         tasks,
@@ -329,14 +344,19 @@ fn try_lists(t: &mut Tally, case: Case, tasks: &[u32], e: Evening) {
         front(&counts, count_list.len),
         e.horizon,
         least(e.room, 16384),
-    );
+    )
 }
 
 // An evening; one in seven has a damaged table.
-pub(crate) fn try_evening(t: &mut Tally, case: Case, given: &[u32]) {
+pub(crate) fn try_evening(
+    rt: &impl Print,
+    t: &mut Tally,
+    case: Case,
+    given: &[u32],
+) -> io::Result<()> {
     let whole = list_of(given);
     let e = an_evening(whole, case);
     let task_list = wrong_table(whole, case.trial);
     let tasks = task_list.at;
-    try_lists(t, case, front(&tasks, task_list.len), e);
+    try_lists(rt, t, case, front(&tasks, task_list.len), e)
 }

@@ -14,6 +14,7 @@ use drawn::inputs::{Input, long, make_input, short};
 use drawn::judge::{FINE, schedule_key, ticks_of};
 use drawn::list::{Case, front, no_line};
 use drawn::tally::{CALLS, DIFFERENCES, INPUTS, Tally, add, count, nothing, print_input, text};
+use std::io;
 
 // The kinds of trials.
 const SMALL: u32 = 0;
@@ -40,19 +41,19 @@ const REPLAYS: u32 = 10;
 
 const KINDS: u32 = 11;
 
-fn title(kind: u32) {
+fn title(rt: &impl Print, kind: u32) -> io::Result<()> {
     match kind {
-        SMALL => text(b"small"),
-        LARGE => text(b"large"),
-        LONG => text(b"long"),
-        DAMAGED => text(b"damaged"),
-        TWICE_DAMAGED => text(b"twice damaged"),
-        ALTERED => text(b"altered records"),
-        ALTERED_ALL_OVER => text(b"records altered all over"),
-        PLANTER => text(b"days of the planter"),
-        EVENING => text(b"evenings"),
-        OTHERS => text(b"other people's jobs"),
-        _ => text(b"replays"),
+        SMALL => text(rt, b"small"),
+        LARGE => text(rt, b"large"),
+        LONG => text(rt, b"long"),
+        DAMAGED => text(rt, b"damaged"),
+        TWICE_DAMAGED => text(rt, b"twice damaged"),
+        ALTERED => text(rt, b"altered records"),
+        ALTERED_ALL_OVER => text(rt, b"records altered all over"),
+        PLANTER => text(rt, b"days of the planter"),
+        EVENING => text(rt, b"evenings"),
+        OTHERS => text(rt, b"other people's jobs"),
+        _ => text(rt, b"replays"),
     }
 }
 
@@ -90,36 +91,57 @@ fn input_of(kind: u32, trial: u32, se: bool) -> Input {
 }
 
 // One input through every public function: run, fresh, step, go_on, verdict, verdicts, claim, witness, response, mend.
-fn try_input(t: &mut Tally, case: Case, tasks: &[u32], jobs: &[u32], between: usize) {
+fn try_input(
+    rt: &impl Print,
+    t: &mut Tally,
+    case: Case,
+    tasks: &[u32],
+    jobs: &[u32],
+    between: usize,
+) -> io::Result<()> {
     let key = schedule_key(tasks, jobs, case.horizon, case.room);
     let ticks = ticks_of(key, case.horizon);
     let mut own = no_line();
-    let rec = try_run(t, case, tasks, jobs, key, &mut own);
-    let fresh = try_fresh(t, tasks, jobs, rec);
-    try_steps(t, case, tasks, jobs, fresh, ticks);
-    try_step(t, case, tasks, jobs, rec);
-    try_verdicts(t, case, tasks, jobs, rec);
-    try_any(t, case, tasks, jobs, rec);
+    let rec = try_run(rt, t, case, tasks, jobs, key, &mut own)?;
+    let fresh = try_fresh(rt, t, tasks, jobs, rec)?;
+    try_steps(rt, t, case, tasks, jobs, fresh, ticks)?;
+    try_step(rt, t, case, tasks, jobs, rec)?;
+    try_verdicts(rt, t, case, tasks, jobs, rec)?;
+    try_any(rt, t, case, tasks, jobs, rec)?;
     if key == FINE {
         count_ticks(t, &own, ticks);
-        try_parts(t, case, tasks, jobs, fresh, rec, &own, ticks);
+        try_parts(rt, t, case, tasks, jobs, fresh, rec, &own, ticks)?;
     }
-    try_claims(t, case, tasks, jobs, &own, ticks, between);
+    try_claims(rt, t, case, tasks, jobs, &own, ticks, between)
 }
 
 // The record of a run, altered: a step, some ticks and the verdicts from it.
-fn try_altered(t: &mut Tally, case: Case, tasks: &[u32], jobs: &[u32], many: bool) {
+fn try_altered(
+    rt: &impl Print,
+    t: &mut Tally,
+    case: Case,
+    tasks: &[u32],
+    jobs: &[u32],
+    many: bool,
+) -> io::Result<()> {
     let key = schedule_key(tasks, jobs, case.horizon, case.room);
     let mut own = no_line();
-    let ran = try_run(t, case, tasks, jobs, key, &mut own);
+    let ran = try_run(rt, t, case, tasks, jobs, key, &mut own)?;
     let rec = altered(ran, case, jobs, many);
-    try_step(t, case, tasks, jobs, rec);
-    try_any(t, case, tasks, jobs, rec);
-    try_verdicts(t, case, tasks, jobs, rec);
+    try_step(rt, t, case, tasks, jobs, rec)?;
+    try_any(rt, t, case, tasks, jobs, rec)?;
+    try_verdicts(rt, t, case, tasks, jobs, rec)
 }
 
 // A trial of a kind. What made a difference is written with its input.
-fn try_case(t: &mut Tally, kind: u32, case: Case, tasks: &[u32], jobs: &[u32]) {
+fn try_case(
+    rt: &impl Print,
+    t: &mut Tally,
+    kind: u32,
+    case: Case,
+    tasks: &[u32],
+    jobs: &[u32],
+) -> io::Result<()> {
     let before = count(t, DIFFERENCES);
     add(t, INPUTS, 1);
     if kind < ALTERED {
@@ -128,24 +150,25 @@ fn try_case(t: &mut Tally, kind: u32, case: Case, tasks: &[u32], jobs: &[u32]) {
         } else {
             jobs.len() / 48 * 2
         };
-        try_input(t, case, tasks, jobs, between);
+        try_input(rt, t, case, tasks, jobs, between)?;
     } else if kind == PLANTER {
-        try_day(t, case, tasks, jobs);
+        try_day(rt, t, case, tasks, jobs)?;
     } else if kind == EVENING {
-        try_evening(t, case, tasks);
+        try_evening(rt, t, case, tasks)?;
     } else if kind == OTHERS {
-        try_others(t, case, tasks, jobs);
+        try_others(rt, t, case, tasks, jobs)?;
     } else if kind == REPLAYS {
-        try_replays(t, case, tasks, jobs);
+        try_replays(rt, t, case, tasks, jobs)?;
     } else {
-        try_altered(t, case, tasks, jobs, kind == ALTERED_ALL_OVER);
+        try_altered(rt, t, case, tasks, jobs, kind == ALTERED_ALL_OVER)?;
     }
     if before < count(t, DIFFERENCES) {
-        print_input(case, tasks, jobs);
+        print_input(rt, case, tasks, jobs)?;
     }
+    Ok(())
 }
 
-fn trial_of(t: &mut Tally, kind: u32, trial: u32, se: bool) {
+fn trial_of(rt: &impl Print, t: &mut Tally, kind: u32, trial: u32, se: bool) -> io::Result<()> {
     let inp = input_of(kind, trial, se);
     let task_list = inp.tasks;
     let job_list = inp.jobs;
@@ -159,47 +182,50 @@ fn trial_of(t: &mut Tally, kind: u32, trial: u32, se: bool) {
         room: inp.room,
     };
     try_case(
+        rt,
         t,
         kind,
         case,
         front(&tasks, task_list.len),
         front(&jobs, job_list.len),
-    );
+    )
 }
 
 // The trials of a kind in a mode, each with a number of its own.
-fn trials(t: &mut Tally, kind: u32, se: bool, n: u32) {
+fn trials(rt: &impl Print, t: &mut Tally, kind: u32, se: bool, n: u32) -> io::Result<()> {
     let even = 200000 * (kind % 16);
     let first = if se { even + 100000 } else { even };
     for i in 0..n {
-        trial_of(t, kind, std::num::wrapping_add_u32(first, i), se);
+        trial_of(rt, t, kind, std::num::wrapping_add_u32(first, i), se)?;
     }
+    Ok(())
 }
 
 // A group, counted by itself and into the sum of all.
-fn group(sum: &mut Tally, kind: u32, se: bool) {
+fn group(rt: &impl Print, sum: &mut Tally, kind: u32, se: bool) -> io::Result<()> {
     let mut t = nothing();
     let n = how_many(kind) % 65536;
-    trials(&mut t, kind, se, if se { n + n / 2 } else { n });
-    title(kind);
+    trials(rt, &mut t, kind, se, if se { n + n / 2 } else { n })?;
+    title(rt, kind)?;
     if se {
-        text(b" SE");
+        text(rt, b" SE")?;
     } else {
-        text(b" S");
+        text(rt, b" S")?;
     }
-    report(&t);
+    report(rt, &t)?;
     add(sum, INPUTS, count(&t, INPUTS));
     add(sum, CALLS, count(&t, CALLS));
     add(sum, DIFFERENCES, count(&t, DIFFERENCES));
+    Ok(())
 }
 
 // Every group in both modes, and the sum of them all.
-pub(crate) fn all() {
+pub(crate) fn all(rt: &impl Print) -> io::Result<()> {
     let mut sum = nothing();
     for kind in 0..KINDS {
-        group(&mut sum, kind, false);
-        group(&mut sum, kind, true);
+        group(rt, &mut sum, kind, false)?;
+        group(rt, &mut sum, kind, true)?;
     }
-    text(b"all");
-    report(&sum);
+    text(rt, b"all")?;
+    report(rt, &sum)
 }

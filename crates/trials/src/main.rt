@@ -19,6 +19,8 @@ mod replays;
 mod runs;
 mod tally;
 
-fn main() {
-    groups::all();
+use std::io;
+
+fn main(rt: HostRuntime) -> io::Result<()> {
+    groups::all(&rt)
 }

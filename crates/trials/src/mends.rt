@@ -10,6 +10,7 @@ use drawn::draw::draw;
 use drawn::judge::{FINE, late, schedule_key};
 use drawn::list::{Case, Line, entry_at, least, less, no_line};
 use drawn::tally::{Tally, add, note};
+use std::io;
 use zsrm::Mended;
 
 fn copy_line(line: &[u16], out: &mut Line) {
@@ -82,6 +83,7 @@ fn lent_room(trial: u32, n: usize) -> usize {
 
 // A claim mended into a second list. The claim is replayed already.
 pub(crate) fn try_mend(
+    rt: &impl Print,
     t: &mut Tally,
     case: Case,
     tasks: &[u32],
@@ -89,7 +91,7 @@ pub(crate) fn try_mend(
     line: &[u16],
     replay: Replay,
     ours: &Line,
-) {
+) -> io::Result<()> {
     let room = lent_room(case.trial, line.len());
     let other = late(room != (case.horizon as usize), 10);
     let key = least(schedule_key(tasks, jobs, case.horizon, line.len()), other);
@@ -104,16 +106,18 @@ pub(crate) fn try_mend(
     let lent = begin_alike(&out, &own, room);
     let counted = changes_of(mended) == changed;
     note(
+        rt,
         t,
         MEND,
         changed,
         claim_answer(key, replay.bad),
         answer_if(of_mended(mended), lent, counted, true),
-    );
+    )?;
     add(t, ENTRIES_CHANGED, changed);
     if (key == FINE) & (replay.bad != 0) {
         if begin_alike(&out, ours, room) == false {
             add(t, MENDED_UNLIKE_OURS, 1);
         }
     }
+    Ok(())
 }

@@ -11,6 +11,7 @@ use drawn::list::{
     least, list_of, no_line, task,
 };
 use drawn::tally::{DIFFERENCES, Tally, add, count, note, numbers};
+use std::io;
 use zsrm::Record;
 
 // The members are the tasks with a priority above the bar.
@@ -139,7 +140,15 @@ fn compared(
 }
 
 // Every member's job in the run of the whole list and in that of the other. What made a difference is written with both.
-fn try_members(t: &mut Tally, case: Case, tasks: &[u32], jobs: &[u32], bar: u32, dropped: bool) {
+fn try_members(
+    rt: &impl Print,
+    t: &mut Tally,
+    case: Case,
+    tasks: &[u32],
+    jobs: &[u32],
+    bar: u32,
+    dropped: bool,
+) -> io::Result<()> {
     let before = count(t, DIFFERENCES);
     let f = leave_out(tasks, jobs, bar, case.trial);
     let list = f.jobs;
@@ -155,28 +164,36 @@ fn try_members(t: &mut Tally, case: Case, tasks: &[u32], jobs: &[u32], bar: u32,
             let there = f.number[j];
             let ticks = same_ticks(&a, (j % 64) as u16, &b, (there % 64) as u16, case.horizon);
             let got = compared(case, tasks, whole, less, ticks, number, there);
-            told_of(t, number, got, dropped);
+            told_of(rt, t, number, got, dropped)?;
         }
     }
     if before < count(t, DIFFERENCES) {
-        numbers(b"  the table that ran", tasks);
-        numbers(b"  the list with fewer jobs", fewer);
+        numbers(rt, b"  the table that ran", tasks)?;
+        numbers(rt, b"  the list with fewer jobs", fewer)?;
     }
+    Ok(())
 }
 
-fn told_of(t: &mut Tally, number: u32, got: u64, dropped: bool) {
+fn told_of(rt: &impl Print, t: &mut Tally, number: u32, got: u64, dropped: bool) -> io::Result<()> {
     if dropped {
         add(t, PREMISE_DROPPED, 1);
         if got != DONE {
             add(t, DROPPED_UNLIKE, 1);
         }
     } else {
-        note(t, MEMBER, number, DONE, got);
+        note(rt, t, MEMBER, number, DONE, got)?;
     }
+    Ok(())
 }
 
 // The members are the tasks above the lower of two tasks' priorities; one time in four the others may be more critical.
-pub(crate) fn try_others(t: &mut Tally, case: Case, given: &[u32], jobs: &[u32]) {
+pub(crate) fn try_others(
+    rt: &impl Print,
+    t: &mut Tally,
+    case: Case,
+    given: &[u32],
+    jobs: &[u32],
+) -> io::Result<()> {
     let n = ((given.len() / 7) % 64) as u32;
     let one = task(given, draw(case.trial, 290, n), PRIORITY);
     let two = task(given, draw(case.trial, 292, n), PRIORITY);
@@ -189,5 +206,5 @@ pub(crate) fn try_others(t: &mut Tally, case: Case, given: &[u32], jobs: &[u32])
     };
     let list = bounded(given, bar, most);
     let table = list.at;
-    try_members(t, case, front(&table, list.len), jobs, bar, dropped);
+    try_members(rt, t, case, front(&table, list.len), jobs, bar, dropped)
 }

@@ -9,6 +9,7 @@ use drawn::draw::draw;
 use drawn::judge::{FINE, late, refusal, ticks_of};
 use drawn::list::{Case, Line, least, less, no_line, part_of_line, short, wide};
 use drawn::tally::{Tally, add, note};
+use std::io;
 use zsrm::{Place, Ran, Record, Standing};
 
 // A record as it is saved: tick, previous, and for each place done, suspended, waited, the case of the standing and its number or 0.
@@ -91,6 +92,7 @@ fn lent_go_on(
 // So many ticks on from any record, into entries that nothing has been written to: refused by a key, or the entries and the record of the
 // simulator. The record then is the answer.
 fn try_go_on(
+    rt: &impl Print,
     t: &mut Tally,
     case: Case,
     tasks: &[u32],
@@ -100,7 +102,7 @@ fn try_go_on(
     line: &mut Line,
     from: usize,
     room: usize,
-) -> Record {
+) -> io::Result<Record> {
     let whole = late(room != (ticks as usize), 10);
     let past = late(16384 < wide(rec.tick) + wide(ticks), 12);
     let key = least(least(record_key(case, tasks, jobs, rec), whole), past);
@@ -121,11 +123,11 @@ fn try_go_on(
     let same = holds(record, held, end);
     let lent = alike_line(part_of_line(line, from, room), &own, 0);
     let got = answer_if(of_outcome(outcome), lent, true, same);
-    note(t, GO_ON, rec.tick, refusal(key), got);
+    note(rt, t, GO_ON, rec.tick, refusal(key), got)?;
     if (key == FINE) & (ticks == 0) {
         add(t, NO_TICK_ON, 1);
     }
-    record
+    Ok(record)
 }
 
 // How many ticks: none, those up to tick 16,384 or to 64, one more than there are, more than any list has entries, or a few.
@@ -141,7 +143,14 @@ fn some_ticks(trial: u32, tick: u32) -> u32 {
 }
 
 // From any record some ticks on, the list most often as long as it must be.
-pub(crate) fn try_any(t: &mut Tally, case: Case, tasks: &[u32], jobs: &[u32], rec: Record) {
+pub(crate) fn try_any(
+    rt: &impl Print,
+    t: &mut Tally,
+    case: Case,
+    tasks: &[u32],
+    jobs: &[u32],
+    rec: Record,
+) -> io::Result<()> {
     let ticks = some_ticks(case.trial, rec.tick);
     let room = match draw(case.trial, 86, 8) {
         0 => less(ticks, 1),
@@ -150,11 +159,13 @@ pub(crate) fn try_any(t: &mut Tally, case: Case, tasks: &[u32], jobs: &[u32], re
     };
     let n = least(room, 16384) as usize;
     let mut line = no_line();
-    try_go_on(t, case, tasks, jobs, rec, ticks, &mut line, 0, n);
+    try_go_on(rt, t, case, tasks, jobs, rec, ticks, &mut line, 0, n)?;
+    Ok(())
 }
 
 // A run cut into two to five parts at drawn ticks, each with a tie choice of its own, is the run.
 pub(crate) fn try_parts(
+    rt: &impl Print,
     t: &mut Tally,
     case: Case,
     tasks: &[u32],
@@ -163,7 +174,7 @@ pub(crate) fn try_parts(
     ran: Record,
     own: &Line,
     ticks: u32,
-) {
+) -> io::Result<()> {
     let n = draw(case.trial, 87, 4) % 4 + 2;
     let mut line = no_line();
     let mut rec = fresh;
@@ -176,6 +187,7 @@ pub(crate) fn try_parts(
         let saved_record = put_back(saved(rec));
         let from = (rec.tick % 65536) as usize;
         rec = try_go_on(
+            rt,
             t,
             its,
             tasks,
@@ -185,10 +197,10 @@ pub(crate) fn try_parts(
             &mut line,
             from,
             so_many as usize,
-        );
+        )?;
     }
     let lent = begin_alike(&line, own, ticks as usize);
     let same = same_record(rec, ran);
     add(t, PARTS + (n as usize) - 1, 1);
-    note(t, PARTS, n, DONE, answer_if(DONE, lent, true, same));
+    note(rt, t, PARTS, n, DONE, answer_if(DONE, lent, true, same))
 }

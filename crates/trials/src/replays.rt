@@ -14,6 +14,7 @@ use drawn::inputs::{Input, long, make_input, short};
 use drawn::judge::{FINE, schedule_key, ticks_of};
 use drawn::list::{Case, Line, front_of_line, no_line};
 use drawn::tally::{DIFFERENCES, Tally, add, count, note, print_line};
+use std::io;
 use zsrm::{Record, Replayed};
 
 // Every third trial is a day of the planter.
@@ -50,6 +51,7 @@ fn record_due(rec: Record, jobs: &[u32], key: u32, replay: Replay) -> bool {
 
 // What came of a replay, held to the simulator's; the record of the run itself is given where its own schedule is replayed.
 fn try_replayed(
+    rt: &impl Print,
     t: &mut Tally,
     call: usize,
     jobs: &[u32],
@@ -58,20 +60,29 @@ fn try_replayed(
     got: Replayed,
     own: bool,
     ran: Record,
-) {
+) -> io::Result<()> {
     let claim = got.claim;
     let record = got.record;
     let due = record_due(record, jobs, key, replay);
     let same = !own | same_record(record, ran);
     let answer = answer_if(of_claim(claim), true, due, same);
-    note(t, call, replay.bad, claim_answer(key, replay.bad), answer);
+    note(
+        rt,
+        t,
+        call,
+        replay.bad,
+        claim_answer(key, replay.bad),
+        answer,
+    )?;
     if own {
         add(t, call % 1856 + OF_OUR_RUN, 1);
     }
+    Ok(())
 }
 
 // One schedule replayed by the library, and, on a day, by the planter.
 fn try_replay(
+    rt: &impl Print,
     t: &mut Tally,
     case: Case,
     tasks: &[u32],
@@ -79,33 +90,41 @@ fn try_replay(
     all: &Line,
     own: bool,
     ran: Record,
-) {
+) -> io::Result<()> {
     let before = count(t, DIFFERENCES);
     let line = front_of_line(all, case.room);
     let mode = mode_of(case.se);
     let key = schedule_key(tasks, jobs, case.horizon, line.len());
     let replay = replayed(case.se, tasks, jobs, ticks_of(key, case.horizon), line);
     let got = zsrm::replay(mode, tasks, jobs, case.horizon, line);
-    try_replayed(t, REPLAY, jobs, key, replay, got, own, ran);
+    try_replayed(rt, t, REPLAY, jobs, key, replay, got, own, ran)?;
     if of_planter(case.trial) {
         let day = planter::replay(mode, jobs, case.horizon, line);
-        try_replayed(t, DAY_REPLAY, jobs, key, replay, day, own, ran);
+        try_replayed(rt, t, DAY_REPLAY, jobs, key, replay, day, own, ran)?;
     }
     if before < count(t, DIFFERENCES) {
-        print_line(line);
+        print_line(rt, line)?;
     }
+    Ok(())
 }
 
 // A run, then its own schedule and every other kind of claim replayed.
-pub(crate) fn try_replays(t: &mut Tally, case: Case, tasks: &[u32], jobs: &[u32]) {
+pub(crate) fn try_replays(
+    rt: &impl Print,
+    t: &mut Tally,
+    case: Case,
+    tasks: &[u32],
+    jobs: &[u32],
+) -> io::Result<()> {
     let key = schedule_key(tasks, jobs, case.horizon, case.room);
     let ticks = ticks_of(key, case.horizon);
     let mut line = no_line();
-    let ran = try_run(t, case, tasks, jobs, key, &mut line);
+    let ran = try_run(rt, t, case, tasks, jobs, key, &mut line)?;
     for kind in 0..8 {
         if claimed(kind, ticks, case.trial) {
             make_claim(case, tasks, jobs, kind, ticks, &mut line);
-            try_replay(t, case, tasks, jobs, &line, kind == OUR_RUN, ran);
+            try_replay(rt, t, case, tasks, jobs, &line, kind == OUR_RUN, ran)?;
         }
     }
+    Ok(())
 }

@@ -17,6 +17,7 @@ use drawn::list::{
     of, wide,
 };
 use drawn::tally::{Tally, add, note};
+use std::io;
 use zsrm::{Mode, Ran, Record, Stepped, Tie, Verdict};
 
 // Whether the entries of a list are those of another from a place on.
@@ -66,13 +67,14 @@ pub(crate) fn lent_run(
 // A run that must be refused by a key or leave the entries that the simulator writes, up to a horizon that is 0 where it is refused. Its
 // record is the answer.
 pub(crate) fn try_run(
+    rt: &impl Print,
     t: &mut Tally,
     case: Case,
     tasks: &[u32],
     jobs: &[u32],
     key: u32,
     own: &mut Line,
-) -> Record {
+) -> io::Result<Record> {
     let held = held_jobs(jobs, key);
     let end = fly(
         case.se,
@@ -97,8 +99,8 @@ pub(crate) fn try_run(
     let same = holds(record, held, end);
     let lent = alike(front_of_line(&line, case.room), own, 0);
     let got = answer_if(of_outcome(outcome), lent, true, same);
-    note(t, RUN, 0, refusal(key), got);
-    record
+    note(rt, t, RUN, 0, refusal(key), got)?;
+    Ok(record)
 }
 
 // The idle and the busy ticks of a run, and how often another entry follows in the last 4,096 of 16,384 ticks.
@@ -126,7 +128,13 @@ pub(crate) fn count_ticks(t: &mut Tally, line: &Line, ticks: u32) {
 }
 
 // The fresh record, from any record.
-pub(crate) fn try_fresh(t: &mut Tally, tasks: &[u32], jobs: &[u32], stale: Record) -> Record {
+pub(crate) fn try_fresh(
+    rt: &impl Print,
+    t: &mut Tally,
+    tasks: &[u32],
+    jobs: &[u32],
+    stale: Record,
+) -> io::Result<Record> {
     let ran = stale.fresh(tasks, jobs);
     let outcome = ran.outcome;
     let record = ran.record;
@@ -134,13 +142,14 @@ pub(crate) fn try_fresh(t: &mut Tally, tasks: &[u32], jobs: &[u32], stale: Recor
     let held = held_jobs(jobs, key);
     let same = holds(record, held, begin(held));
     note(
+        rt,
         t,
         FRESH,
         0,
         refusal(key),
         answer_if(of_outcome(outcome), true, true, same),
-    );
-    record
+    )?;
+    Ok(record)
 }
 
 // What a step comes to, as a number: its outcome, where the entry, the words and the record are as they must be.
@@ -180,12 +189,13 @@ fn count_before(t: &mut Tally, case: Case, tasks: &[u32], jobs: &[u32], s: Sim) 
 
 // One step from any record. The record after it is the answer.
 pub(crate) fn try_step(
+    rt: &impl Print,
     t: &mut Tally,
     case: Case,
     tasks: &[u32],
     jobs: &[u32],
     rec: Record,
-) -> Record {
+) -> io::Result<Record> {
     let key = least(
         record_key(case, tasks, jobs, rec),
         late(rec.tick == 16384, 12),
@@ -196,29 +206,31 @@ pub(crate) fn try_step(
     } else {
         refused_told(stepped)
     };
-    note(t, STEP, rec.tick, refusal(key), got);
+    note(rt, t, STEP, rec.tick, refusal(key), got)?;
     if stepped.ended != 0 {
         add(t, ENDING, 1);
     }
     if key == FINE {
         count_before(t, case, tasks, jobs, taken_up(rec, jobs));
     }
-    stepped.record
+    Ok(stepped.record)
 }
 
 // So many steps.
 pub(crate) fn try_steps(
+    rt: &impl Print,
     t: &mut Tally,
     case: Case,
     tasks: &[u32],
     jobs: &[u32],
     fresh: Record,
     n: u32,
-) {
+) -> io::Result<()> {
     let mut rec = fresh;
     for ticks in 0..n {
-        rec = try_step(t, case, tasks, jobs, rec);
+        rec = try_step(rt, t, case, tasks, jobs, rec)?;
     }
+    Ok(())
 }
 
 // From a deadline to an instant not before it.
@@ -270,6 +282,7 @@ fn verdict_due(key: u32, tasks: &[u32], jobs: &[u32], s: Sim, j: u32) -> u64 {
 
 // The verdict on a job from any record.
 fn try_verdict(
+    rt: &impl Print,
     t: &mut Tally,
     case: Case,
     tasks: &[u32],
@@ -277,14 +290,15 @@ fn try_verdict(
     rec: Record,
     key: u32,
     j: u32,
-) {
+) -> io::Result<()> {
     let got = of_verdict(zsrm::verdict(rec, mode_of(case.se), tasks, jobs, j));
     let want = verdict_due(key, tasks, jobs, taken_up(rec, jobs), j);
-    note(t, VERDICT, j, want, got);
+    note(rt, t, VERDICT, j, want, got)
 }
 
 // One of all verdicts, and whether the outcome told with them is right.
 fn try_one(
+    rt: &impl Print,
     t: &mut Tally,
     tasks: &[u32],
     jobs: &[u32],
@@ -293,19 +307,28 @@ fn try_one(
     j: u32,
     got: Verdict,
     told: bool,
-) {
+) -> io::Result<()> {
     let want = verdict_due(key, tasks, jobs, s, j);
     note(
+        rt,
         t,
         ALL_VERDICTS,
         j,
         want,
         answer_if(of_verdict(got), true, told, true),
-    );
+    )
 }
 
 // All verdicts at once.
-fn try_all(t: &mut Tally, case: Case, tasks: &[u32], jobs: &[u32], rec: Record, key: u32) {
+fn try_all(
+    rt: &impl Print,
+    t: &mut Tally,
+    case: Case,
+    tasks: &[u32],
+    jobs: &[u32],
+    rec: Record,
+    key: u32,
+) -> io::Result<()> {
     let all = zsrm::verdicts(rec, mode_of(case.se), tasks, jobs);
     let s = taken_up(rec, jobs);
     let outcome = all.outcome;
@@ -313,21 +336,30 @@ fn try_all(t: &mut Tally, case: Case, tasks: &[u32], jobs: &[u32], rec: Record, 
     for j in 0..64 {
         let judged = all.of[j];
         let verdict = judged.verdict;
-        try_one(t, tasks, jobs, s, key, (j % 64) as u32, verdict, told);
+        try_one(rt, t, tasks, jobs, s, key, (j % 64) as u32, verdict, told)?;
     }
+    Ok(())
 }
 
 // A number beyond every list, which in 16 bits would be 0.
 pub(crate) const FAR_JOB: u32 = 65536;
 
 // The verdicts on all jobs, and on two beyond the list.
-pub(crate) fn try_verdicts(t: &mut Tally, case: Case, tasks: &[u32], jobs: &[u32], rec: Record) {
+pub(crate) fn try_verdicts(
+    rt: &impl Print,
+    t: &mut Tally,
+    case: Case,
+    tasks: &[u32],
+    jobs: &[u32],
+    rec: Record,
+) -> io::Result<()> {
     let key = record_key(case, tasks, jobs, rec);
-    try_all(t, case, tasks, jobs, rec, key);
-    try_verdict(t, case, tasks, jobs, rec, key, FAR_JOB);
+    try_all(rt, t, case, tasks, jobs, rec, key)?;
+    try_verdict(rt, t, case, tasks, jobs, rec, key, FAR_JOB)?;
     for j in 0..65 {
         if (j as usize) <= jobs.len() / 3 {
-            try_verdict(t, case, tasks, jobs, rec, key, j);
+            try_verdict(rt, t, case, tasks, jobs, rec, key, j)?;
         }
     }
+    Ok(())
 }
