@@ -1,7 +1,0 @@
--- The loop counts up to its end; nothing else is asked of it.
-use Rattle.std.proofs.Common.{◌-◌, ◌≤◌, rules}
-use Rattle.trials.proofs.records.holds.Statement.{statement}
-use Rattle.trials.proofs.records.holds.Tie as tie
-
-pub holds_spec : {M : Type 1} → statement M
-holds_spec = tie.close (tie.spec (λ _ _ _ _ _ _ _. 0 ≤ 0) (λ _ _ _ _ _ _ j. 64 - j) (search rules) (search rules) (search rules) (search rules) (search rules) (search rules) (search rules) (search rules) (search rules) (search rules) (search rules) (search rules) (search rules) (search rules) (search rules) (search rules) (search rules) (search rules) (search rules))
