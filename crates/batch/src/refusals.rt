@@ -73,6 +73,7 @@ fn check17(jobs: &[u32], counts: &[u32], horizon: u32, entries: usize) -> Outcom
 }
 
 // What is checked of the call as a whole: 2 to 4, 9, 17.
+#[tactic(auto, unfolding(crate::specs::Refusals::check_call))]
 fn check_call(tasks: &[u32], jobs: &[u32], counts: &[u32], horizon: u32, entries: usize) -> Outcome
     ensures { result ≡ check_call tasks.now jobs.now counts.now horizon entries }
 {

@@ -23,6 +23,7 @@ fn check_last(file: &[u8], used: usize) -> Outcome
 }
 
 // The end would pass a limit. Told by the room that there is, as the end itself may be over 64 bits.
+#[tactic(auto, using(crate::proofs::Laws::Appending::passes_trailer, crate::proofs::Laws::Appending::passes_numbers))]
 fn passes(limit: usize, used: usize, numbers: usize) -> bool
     ensures { result ≡ ltb limit (end_after used numbers) }
 {

@@ -1,12 +1,6 @@
 -- The room up to the limit, less the trailer's 16 bytes, is compared in numbers of four bytes.
-use Rattle.chain.proofs.Laws.Appending.{passes_numbers, passes_trailer, passes_used}
+use Rattle.chain.proofs.Laws.Appending.{passes_used}
 use Rattle.chain.proofs.appending.passes.Goals as goal
 
 pub returns-then-limit-used : goal.returns-then-limit-used
 returns-then-limit-used c = let a = c.args in passes_used a.limit a.used a.numbers c.if-limit-used.true
-
-pub returns-then-room-lt16 : goal.returns-then-room-lt16
-returns-then-room-lt16 c = let a = c.args in passes_trailer a.limit a.used a.numbers c.if-limit-used.false c.if-room-lt16.true
-
-pub returns : goal.returns
-returns c = let a = c.args in passes_numbers a.limit a.used a.numbers c.if-limit-used.false c.if-room-lt16.false
