@@ -33,6 +33,7 @@ fn put_stretch(out: &mut [u8], at: usize, first: u32, next: u32, e: u16) -> usiz
 }
 
 // The lines of all longest stretches of equal entries.
+#[tactic(auto, using(crate::proofs::Laws::Lines::stretched_new, crate::proofs::Laws::Lines::stretched_same))]
 pub(crate) fn put_stretches(out: &mut [u8], at: usize, schedule: &[u16]) -> usize
     requires { length schedule.now ≤ 16384 }
     ensures { Put out.old at (stretches schedule.now) out.new result }
