@@ -36,7 +36,7 @@ listing_length s = parsed_length (parsed_of s)
 pub listing_fits : (s : List ℕ) {l m : List ℕ} {k : ℕ} → 600000 ≤ length l → Put l 0 (listing s) m k → Wrote l 0 (listing s) m k × (k ≤ length m)
 listing_fits s h w = (put_all w (omega (arith, listing_length s)), omega (arith, w.next_is, put_length w))
 
--- The listing is that of the text's first 1,845 bytes: one more than the longest well_formed text has. So nothing more need be read.
+-- The listing is that of the text's first 1,845 bytes: one more than the longest well-formed text has. So nothing more need be read.
 pub first_bytes_decide : (s : List ℕ) → listing (take 1845 s) ≡ listing s
 first_bytes_decide s = by_length (dec_le (length s) 1845)
   where
