@@ -45,8 +45,8 @@
 
    The stack
    ---------
-   Over the benchmark's inputs a call of zsrm_run was measured to need 1,888 bytes of stack and one
-   of zsrm_claim 1,872; nothing recurses. host/run bench measures both again.
+   Over the benchmark's inputs a call of zsrm_run was measured to need 1,816 bytes of stack and one
+   of zsrm_claim 1,816; nothing recurses. host/run bench measures both again.
 
    An example
    ----------

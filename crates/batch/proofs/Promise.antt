@@ -11,8 +11,8 @@ use mathlib.Core.Path.{ap, refl, sym, ◌∙◌, ◌≡◌}
 use native.Mathlib.Nat.{le_of_eq, zero-mul}
 use native.Mathlib.Omega.{arith}
 use lib.ListN.{drop, get_or, length, length-replicate, replicate, take}
-use Rattle.tables.specs.declared.answers.Outcome.{Outcome}
-use Rattle.tables.specs.declared.answers.Outcome.TheVariants.{Done, Refused}
+use Rattle.std.specs.Prelude.{Ok, Err}
+use Rattle.tables.specs.Outcomes.{Outcome, Done, Refused}
 use Rattle.tables.specs.Refusals.{check_tasks}
 use Rattle.tables.specs.Said.{done, outcome_said, refused}
 use Rattle.tables.proofs.Laws.Said.{outcome_said_law}
@@ -24,13 +24,12 @@ use Rattle.zsrm.specs.declared.tie.Tie.TheVariants.{Lowest}
 use Rattle.zsrm.specs.Answers.{run_answer, run_schedule}
 use Rattle.zsrm.specs.Record.{blank}
 use Rattle.batch.specs.declared.answers.Batch.{Batch}
-use Rattle.batch.specs.declared.refusals.Found.{Found}
 use Rattle.batch.specs.Answers.{batch_answer, batch_schedule, checked}
-use Rattle.batch.specs.Refusals.{check_call, check_runs, with_run}
+use Rattle.batch.specs.Refusals.{Found, check_call, check_runs, outcome_of, run_of, with_run}
 use Rattle.batch.specs.Runs.{Offer, given_of, jobs_before, list_of, offer, place_of, record_of, records_of, schedule_of, schedules_of}
 use Rattle.batch.proofs.Laws.Answers.{answer_done, answer_refused, own_checked, own_outcome, ran_same, schedule_done, schedule_kept, wrote_same}
 use Rattle.tables.proofs.Laws.Refusals.{Numbered}
-use Rattle.batch.proofs.Laws.Refusals.{Fits, CallNumber, batch_call, batch_passes, batch_runs, call_exactly, call_fits}
+use Rattle.batch.proofs.Laws.Refusals.{Fits, CallNumber, batch_call, batch_passes, batch_runs, call_exactly, call_fits, found_done, found_refused}
 use Rattle.batch.proofs.Laws.Refusals.{call_numbered, call_seventeen, call_unfit, checks_each, checks_pass, checks_run, checks_zero}
 use Rattle.batch.proofs.Laws.Runs.{length_list, length_place, length_schedules, lists_all, lists_behind, place_ends, record_or_blank_law, record_none, schedule_part}
 
@@ -39,13 +38,13 @@ module _ (o : Offer) (lent : List ℕ) where
   abbrev pub call : Outcome
   call = check_call o.tasks o.jobs o.counts o.horizon (length lent)
 
-  passes : outcome_said (batch_answer o lent).outcome ≡ done → (checked o lent).outcome ≡ Done
+  passes : outcome_said (batch_answer o lent).outcome ≡ done → outcome_of (checked o lent) ≡ Done
   unfolding batch_answer outcome_said
-  passes says = outcome_said_law (checked o lent).outcome Done says
+  passes says = outcome_said_law (outcome_of (checked o lent)) Done says
 
-  refuses : (number place : ℕ) → outcome_said (batch_answer o lent).outcome ≡ refused number place → (checked o lent).outcome ≡ Refused number place
+  refuses : (number place : ℕ) → outcome_said (batch_answer o lent).outcome ≡ refused number place → outcome_of (checked o lent) ≡ Refused number place
   unfolding batch_answer outcome_said
-  refuses number place says = outcome_said_law (checked o lent).outcome (Refused number place) says
+  refuses number place says = outcome_said_law (outcome_of (checked o lent)) (Refused number place) says
 
   -- ## Refusals
 
@@ -55,7 +54,7 @@ module _ (o : Offer) (lent : List ℕ) where
   unfolding batch_answer checked outcome_said with_run
   call_refused number place says =
       let e = batch_call o.tasks o.jobs o.counts o.horizon (length lent) number place (outcome_said_law call (Refused number place) says) in
-      (ap (λ (x : Found). outcome_said x.outcome) e, ap (λ (x : Found). x.run) e)
+      (ap (λ (x : Found). outcome_said (outcome_of x)) e, ap run_of e)
 
   -- It passes exactly where the table is accepted, the horizon is at most 16,384, and there are at most 32 runs, counts whose sum times three
   -- is the flat list's length, and a lent list of runs times horizon entries.
@@ -94,7 +93,7 @@ module _ (o : Offer) (lent : List ℕ) where
   run_refused number place fine says =
       let ok = outcome_said_law call Done fine in
       let e = batch_runs o.tasks o.jobs o.counts o.horizon (length lent) ok in
-      let w = checks_run o.tasks o.jobs o.counts (length o.counts) number place (ap (λ (x : Found). x.outcome) (sym e) ∙ refuses number place says) in
+      let w = checks_run o.tasks o.jobs o.counts (length o.counts) number place (ap outcome_of (sym e) ∙ refuses number place says) in
       rw e
       (record {
         there = w.there;
@@ -109,10 +108,10 @@ module _ (o : Offer) (lent : List ℕ) where
   own_refused number place least most says = run_refused number place (go call refl (call_numbered o.tasks o.jobs o.counts o.horizon (length lent))) says
     where
       go : (x : Outcome) → call ≡ x → Numbered CallNumber x → outcome_said x ≡ done
-      go Done e w = refl
-      go (Refused n p) e w =
-          let same : n ≡ number = cc (call_refused n p (ap outcome_said e)).0 in
-          ⊎_elim (λ (l : n ≤ 4). absurd (omega arith)) (λ (l : 9 ≤ n). absurd (omega arith)) w
+      go (Ok u) e w = refl
+      go (Err r) e w =
+          let same : r.number ≡ number = cc (call_refused r.number r.place (ap outcome_said e)).0 in
+          ⊎_elim (λ (l : r.number ≤ 4). absurd (omega arith)) (λ (l : 9 ≤ r.number). absurd (omega arith)) w
 
   -- 17 is given for nothing else: no run by itself is refused so.
   pub seventeen_only : (place : ℕ) → outcome_said (batch_answer o lent).outcome ≡ refused 17 place
@@ -121,14 +120,14 @@ module _ (o : Offer) (lent : List ℕ) where
   seventeen_only place says = go call refl
     where
       go : (x : Outcome) → call ≡ x → (outcome_said (check_tasks o.tasks) ≡ done) × (o.horizon ≤ 16384) × (Fits o.jobs o.counts o.horizon (length lent) → ⊥)
-      go Done e =
+      go (Ok u) e =
           let found = batch_runs o.tasks o.jobs o.counts o.horizon (length lent) e in
-          let w = checks_run o.tasks o.jobs o.counts (length o.counts) 17 place (ap (λ (x : Found). x.outcome) (sym found) ∙ refuses 17 place says) in
-          let small = rw w.here at (small_jobs o.tasks (list_of o.jobs o.counts (check_runs o.tasks o.jobs o.counts (length o.counts)).run)) in
+          let w = checks_run o.tasks o.jobs o.counts (length o.counts) 17 place (ap outcome_of (sym found) ∙ refuses 17 place says) in
+          let small = rw w.here at (small_jobs o.tasks (list_of o.jobs o.counts (run_of (check_runs o.tasks o.jobs o.counts (length o.counts))))) in
           absurd (omega (arith, small.1))
-      go (Refused n p) e =
-          let same : n ≡ 17 = cc (call_refused n p (ap outcome_said e)).0 in
-          let w = call_seventeen o.tasks o.jobs o.counts o.horizon (length lent) p (e ∙ ap (λ (x : ℕ). Refused x p) same) in
+      go (Err r) e =
+          let same : r.number ≡ 17 = cc (call_refused r.number r.place (ap outcome_said e)).0 in
+          let w = call_seventeen o.tasks o.jobs o.counts o.horizon (length lent) r.place (e ∙ ap (λ (x : ℕ). Refused x r.place) same) in
           (ap outcome_said w.0, w.1, w.2)
 
   -- The call is done exactly where it is not refused as a whole, and no run would be refused by itself.
@@ -140,7 +139,7 @@ module _ (o : Offer) (lent : List ℕ) where
       there says =
           let ok = batch_passes o.tasks o.jobs o.counts o.horizon (length lent) (passes says) in
           let e = batch_runs o.tasks o.jobs o.counts o.horizon (length lent) ok in
-          let each = checks_each o.tasks o.jobs o.counts (length o.counts) (ap (λ (x : Found). x.outcome) (sym e) ∙ passes says) in
+          let each = checks_each o.tasks o.jobs o.counts (length o.counts) (ap outcome_of (sym e) ∙ passes says) in
           (ap outcome_said ok, λ r l own size. ap outcome_said (own_outcome o (length lent) ok r own size ∙ each r l))
 
       back : (outcome_said call ≡ done) × ((r : ℕ) → r < length o.counts → Accepted r) → outcome_said (batch_answer o lent).outcome ≡ done
@@ -149,7 +148,7 @@ module _ (o : Offer) (lent : List ℕ) where
           let e = batch_runs o.tasks o.jobs o.counts o.horizon (length lent) ok in
           let lot : List ℕ = replicate o.horizon 0 in
           let size : length lot ≡ o.horizon = length-replicate o.horizon 0 in
-          ap (λ (x : Found). outcome_said x.outcome) e
+          ap (λ (x : Found). outcome_said (outcome_of x)) e
           ∙ ap outcome_said (checks_pass o.tasks o.jobs o.counts (length o.counts)
           (λ r l. outcome_said_law _ Done (ap outcome_said (sym (own_outcome o (length lent) ok r lot size)) ∙ w.1 r l lot size)))
 
@@ -158,9 +157,9 @@ module _ (o : Offer) (lent : List ℕ) where
       → (batch_schedule o lent ≡ lent) × ((batch_answer o lent).records ≡ replicate 32 blank)
   unfolding checked
   refused_keeps number place says =
-      let e = refuses number place says in (
-        sym (schedule_kept o lent (checked o lent) refl number place e),
-        ap (λ (x : Batch). x.records) (sym (answer_refused o lent (checked o lent) refl number place e (replicate 32 blank) refl)),
+      let w = found_refused (checked o lent) number place (refuses number place says) in (
+        sym (schedule_kept o lent (checked o lent) refl w.1),
+        ap (λ (x : Batch). x.records) (sym (answer_refused o lent (checked o lent) refl w.1 (replicate 32 blank) refl)),
       )
 
   -- ## Every run's result equals that of a call by itself, where the call is done
@@ -172,11 +171,11 @@ module _ (o : Offer) (lent : List ℕ) where
 
     wrote : batch_schedule o lent ≡ schedules_of o lent (length o.counts)
     unfolding checked
-    wrote = sym (schedule_done o lent (checked o lent) refl (passes ok) (schedules_of o lent (length o.counts)) refl)
+    wrote = sym (schedule_done o lent (checked o lent) refl (found_done (checked o lent) (passes ok)) (schedules_of o lent (length o.counts)) refl)
 
     kept : (batch_answer o lent).records ≡ records_of o lent (length o.counts)
     unfolding checked
-    kept = ap (λ (x : Batch). x.records) (sym (answer_done o lent (checked o lent) refl (passes ok) (records_of o lent (length o.counts)) refl))
+    kept = ap (λ (x : Batch). x.records) (sym (answer_done o lent (checked o lent) refl (found_done (checked o lent) (passes ok)) (records_of o lent (length o.counts)) refl))
 
     -- what run r by itself answers and writes, lent any list of horizon entries: the record at its number, the part of the schedule at its place
     pub record ByItself (r : ℕ) (own : List ℕ) : Type 0 where
@@ -212,7 +211,7 @@ module _ (o : Offer) (lent : List ℕ) where
     run_zero =
         let whole = batch_passes o.tasks o.jobs o.counts o.horizon (length lent) (passes ok) in
         let e = batch_runs o.tasks o.jobs o.counts o.horizon (length lent) whole in
-        ap (λ (x : Found). x.run) e ∙ checks_zero o.tasks o.jobs o.counts (length o.counts) (ap (λ (x : Found). x.outcome) (sym e) ∙ passes ok)
+        ap run_of e ∙ checks_zero o.tasks o.jobs o.counts (length o.counts) (ap outcome_of (sym e) ∙ passes ok)
 
     -- The schedules are the whole list: runs times horizon entries.
     pub schedule_whole : length (batch_schedule o lent) ≡ length o.counts * o.horizon

@@ -3,8 +3,7 @@ use Rattle.std.specs.Prelude.{List, ℕ, length, replicate}
 use Rattle.tables.specs.Refusals.{unless}
 use Rattle.zsrm.specs.Record.{blank}
 use Rattle.batch.specs.declared.answers.Batch.{Batch}
-use Rattle.batch.specs.declared.refusals.Found.{Found}
-use Rattle.batch.specs.Refusals.{check_batch}
+use Rattle.batch.specs.Refusals.{Found, check_batch, outcome_of, run_of}
 use Rattle.batch.specs.Runs.{Offer, records_of, schedules_of}
 
 module _ (o : Offer) (schedule : List ℕ) where
@@ -16,11 +15,11 @@ module _ (o : Offer) (schedule : List ℕ) where
   unfoldable pub batch_answer : Batch
   batch_answer =
       record {
-        outcome = checked.outcome;
-        run = checked.run;
-        records = unless checked.outcome (λ number place. replicate 32 blank) (records_of o schedule (length o.counts));
+        outcome = outcome_of checked;
+        run = run_of checked;
+        records = unless (outcome_of checked) (λ number place. replicate 32 blank) (records_of o schedule (length o.counts));
       }
 
   -- what the lent schedule holds afterwards: every run's, or, where the call is refused, what it held
   unfoldable pub batch_schedule : List ℕ
-  batch_schedule = unless checked.outcome (λ number place. schedule) (schedules_of o schedule (length o.counts))
+  batch_schedule = unless (outcome_of checked) (λ number place. schedule) (schedules_of o schedule (length o.counts))

@@ -1,19 +1,32 @@
 -- Request Five's refusals, and their order: the table's, 9 and 17, all these with run 0; then each run's own.
-use Rattle.std.specs.Prelude.{ℕ, zero, suc, ◌*◌, not, ◌||◌, List, ltb, eqb, length}
-use Rattle.tables.specs.declared.answers.Outcome.{Outcome}
-use Rattle.tables.specs.declared.answers.Outcome.TheVariants.{Done, Refused}
-use Rattle.tables.specs.Refusals.{before, check9, check_jobs, check_tasks, refuse, unless}
-use Rattle.batch.specs.declared.refusals.Found.{Found}
+use Rattle.std.specs.Prelude.{ℕ, zero, suc, ◌*◌, not, ◌||◌, List, ltb, eqb, length, Result, Ok, Err, ⊤}
+use Rattle.tables.specs.Outcomes.{Outcome, Done}
+use Rattle.tables.specs.Refusals.{before, check9, check_jobs, check_tasks, refuse}
+use Rattle.batch.specs.declared.refusals.RefusedRun.{RefusedRun}
 use Rattle.batch.specs.Runs.{jobs_before, list_of}
 
--- A refusal is named with its run; where nothing is refused, the number is 0.
+-- what checks of a batch find: done, or a refusal with the number of its run
+abbrev pub Found : Type 0
+Found = Result ⊤ RefusedRun
+
+-- A refusal is named with its run.
 unfoldable pub with_run : ℕ → Outcome → Found
-with_run run Done = record { outcome = Done; run = 0 }
-with_run run (Refused number place) = record { outcome = Refused number place; run = run }
+with_run run Done = Ok tt
+with_run run (Err refusal) = Err (record { refusal = refusal; run = run })
+
+-- what is found, without the run; and the run's number, 0 where nothing is refused
+abbrev pub outcome_of : Found → Outcome
+outcome_of (Ok u) = Done
+outcome_of (Err refused) = Err refused.refusal
+
+abbrev pub run_of : Found → ℕ
+run_of (Ok u) = 0
+run_of (Err refused) = refused.run
 
 -- The first refusal goes first.
 unfoldable pub goes_first : Found → Found → Found
-goes_first found later = unless found.outcome (λ number place. found) later
+goes_first (Ok u) later = later
+goes_first (Err refused) later = Err refused
 
 -- 17: more than 32 runs, counts whose sum times three is not the flat list's length, or a schedule list not runs times horizon long
 unfoldable pub check17 : List ℕ → List ℕ → ℕ → ℕ → Outcome

@@ -6,11 +6,13 @@ ghost use Rattle.std.specs.Prelude.{◌≡◌};
 ghost use Rattle.batch.specs.Answers.{batch_answer, batch_schedule};
 ghost use Rattle.batch.specs.Runs.{offer};
 
+use given::Offer;
 use refusals::check_batch;
 use runs::{no_records, run_lists};
-use zsrm::{Mode, Outcome};
+use zsrm::Mode;
 
 mod answers;
+mod given;
 mod refusals;
 mod runs;
 
@@ -29,25 +31,23 @@ pub fn run_each(
     ensures answers { result ≡ batch_answer (offer mode tasks.now jobs.now counts.now horizon) schedule.old }
     ensures writes { schedule.new ≡ batch_schedule (offer mode tasks.now jobs.now counts.now horizon) schedule.old }
 {
-    let found = check_batch(tasks, jobs, counts, horizon, schedule.len());
-    let outcome = found.outcome;
-    let run = found.run;
-    match outcome {
-        Outcome::Done => {
-            let records = run_lists(mode, tasks, jobs, counts, horizon, schedule);
-            Batch {
-                outcome: Outcome::Done,
-                run,
-                records,
-            }
-        }
-        Outcome::Refused(number, place) => {
-            let records = no_records();
-            Batch {
-                outcome: Outcome::Refused(number, place),
-                run,
-                records,
-            }
-        }
+    let given = Offer {
+        mode,
+        tasks,
+        jobs,
+        counts,
+        horizon,
+    };
+    match check_batch(given, schedule.len()) {
+        Ok(()) => Batch {
+            outcome: Ok(()),
+            run: 0,
+            records: run_lists(given, schedule),
+        },
+        Err(refused) => Batch {
+            outcome: Err(refused.refusal),
+            run: refused.run,
+            records: no_records(),
+        },
     }
 }

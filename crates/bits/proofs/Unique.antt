@@ -1,6 +1,9 @@
 -- Each contract leaves one answer: `Learnt` is what a function's contract says of the arguments and the result.
-use mathlib.Core.Path.{sym, ◌∙◌, ◌≡◌}
+use Prim.Native.Nat.{ℕ}
+use mathlib.Core.Path.{ap, sym, ◌∙◌, ◌≡◌}
 use contract.Lifetimes.{Lfts}
+use Rattle.bits.specs.declared.SetBits.{SetBits}
+use Rattle.bits.proofs.each.Reads as each
 use Rattle.bits.proofs.has_bit.Reads as has-bit
 use Rattle.bits.proofs.highest.Reads as highest
 use Rattle.bits.proofs.lowest.Reads as lowest
@@ -34,6 +37,9 @@ lowest_one κs a r s e f p q = p ∙ sym q
 
 pub without_lowest_one : (κs : Lfts 0) (a : _) (r s : _) (e f : _) → without-lowest.Learnt κs a r e → without-lowest.Learnt κs a s f → r ≡ s
 without_lowest_one κs a r s e f p q = p ∙ sym q
+
+pub each_one : (κs : Lfts 0) (a : _) (r s : SetBits) (e f : _) → each.Learnt κs a r e → each.Learnt κs a s f → r ≡ s
+each_one κs a r s e f p q = let of : ℕ → SetBits = λ w. record { rest = w } in ap of (p ∙ sym q)
 
 pub one_if_one : (κs : Lfts 0) (a : _) (r s : _) (e f : _) → one-if.Learnt κs a r e → one-if.Learnt κs a s f → r ≡ s
 one_if_one κs a r s e f p q = p ∙ sym q

@@ -4,6 +4,8 @@
 
 ghost use Rattle.std.specs.Prelude.{◌≡◌, cond};
 ghost use Rattle.bits.specs.Below.{count, greatest, least, bit};
+ghost use Rattle.std.specs.Iterator.{at_most};
+ghost use Rattle.bits.specs.Each.{Gives};
 ghost use Rattle.bits.specs.Word.{with_bit, without, without_lowest};
 
 // The word with bit p set too; for p of 64 or more the word as it is.
@@ -66,6 +68,36 @@ pub fn without_lowest(w: u64) -> u64
         return 0;
     }
     w ^ (1u64 << lowest(w))
+}
+
+// The set bits of a word that are still to come, from the lowest on.
+#[derive(Clone, Copy)]
+pub struct SetBits {
+    rest: u64,
+}
+
+impl Iterator for SetBits {
+    type Item = u32;
+
+    ghost remaining = { λ s. at_most s.rest };
+
+    ghost next_gives = { Gives };
+
+    fn next(&mut self) -> Option<u32> {
+        if self.rest == 0 {
+            return None;
+        }
+        let p = lowest(self.rest);
+        self.rest = without_lowest(self.rest);
+        Some(p)
+    }
+}
+
+// The set bits of the word, for a loop.
+pub fn each(w: u64) -> SetBits
+    ensures { result.rest ≡ w }
+{
+    SetBits { rest: w }
 }
 
 // 1 where the test passes, else 0.

@@ -4,7 +4,7 @@ use mathlib.Core.List.{List, [], ◌∷◌, ◌++◌, map}
 use mathlib.Core.Path.{refl, ◌≡◌}
 use lib.ListN.{length, replicate}
 use Rattle.bits.specs.Below.{list_from}
-use Rattle.tables.specs.declared.answers.Outcome.TheVariants.{Done, Refused}
+use Rattle.tables.specs.Outcomes.{Done, Refused}
 use Rattle.tables.specs.Bytes.{bytes_of, number_at, number_bytes}
 use Rattle.tables.specs.Refusals.{ascending, before, check2, check3, check4, check_tasks, outside, refuse, unless}
 use Rattle.tables.specs.Said.{done, outcome_said, refused}

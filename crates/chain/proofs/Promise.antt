@@ -18,15 +18,13 @@ use native.Mathlib.Nat.{zero-mul}
 use native.Mathlib.Omega.{arith}
 use lib.ListN.{get_or, length, replicate}
 use lib.Seq.{sets}
+use Rattle.std.specs.Prelude.{Some, None, Ok, Err}
 use Rattle.bits.proofs.Laws.Bools.{apart}
-use Rattle.tables.specs.declared.answers.Outcome.{Outcome}
-use Rattle.tables.specs.declared.answers.Outcome.TheVariants.{Done, Refused}
+use Rattle.tables.specs.Outcomes.{Outcome, Done, Refused}
 use Rattle.tables.specs.Refusals.{before}
 use Rattle.tables.specs.Said.{done, outcome_said, refused}
 use Rattle.tables.proofs.Laws.Said.{outcome_said_law}
-use Rattle.chain.specs.declared.answers.Appended.TheVariants as appends
 use Rattle.chain.specs.declared.answers.Read.{Read}
-use Rattle.chain.specs.declared.layout.Known.TheVariants.{Is, Unknown}
 use Rattle.chain.specs.declared.layout.Layout.{Layout}
 use Rattle.chain.specs.declared.layout.Layout.TheVariants.{One, Two}
 use Rattle.chain.specs.Answers.{append_answer, append_file, last_answer, new_trailer, nothing, passed_by, read_answer, read_at, shown}
@@ -120,13 +118,13 @@ module _ (reader : Layout) (file : List ℕ) (used at : ℕ) where
       contents_of_law = read_contents reader file used at passes
 
       -- A layout that the reader does not know is 23, with the layout as the place, and no fields.
-      pub other_layout : known reader (trailer_at file at).layout ≡ Unknown → read_at reader file used at ≡ passed_by (trailer_at file at) 23 (trailer_at file at).layout
+      pub other_layout : known reader (trailer_at file at).layout ≡ None → read_at reader file used at ≡ passed_by (trailer_at file at) 23 (trailer_at file at).layout
       other_layout not_known =
-          read_trailer_law reader file used at Done (sym passes) refl ∙ sym (trailer_unknown reader file (trailer_at file at) Unknown (sym not_known) refl)
+          read_trailer_law reader file used at Done (sym passes) refl ∙ sym (trailer_unknown reader file (trailer_at file at) None (sym not_known) refl)
 
       -- In one that it knows, the table is refused with 2, 3 or 4, as document 01 has them for its seven numbers per task ..
-      module _ (layout : Layout) (knows : known reader (trailer_at file at).layout ≡ Is layout) where
-        pub table_refused : (number place : ℕ) → outcome_said (check_table layout (table_of (Is layout) file (trailer_at file at))) ≡ refused number place
+      module _ (layout : Layout) (knows : known reader (trailer_at file at).layout ≡ Some layout) where
+        pub table_refused : (number place : ℕ) → outcome_said (check_table layout (table_of (Some layout) file (trailer_at file at))) ≡ refused number place
             → read_at reader file used at ≡ passed_by (trailer_at file at) number place
         unfolding outcome_said
         table_refused number place says =
@@ -140,19 +138,19 @@ module _ (reader : Layout) (file : List ℕ) (used at : ℕ) where
             let t = trailer_at file at in
             let size = length_numbers file t.start (t.count * width layout) in
             table_refused 2 0
-            (ap outcome_said (⊎_elim (λ e. none_refused layout (table_of (Is layout) file t) (size ∙ ap (λ (n : ℕ). n * width layout) e ∙ zero-mul (width layout)))
-            (λ h. many_refused layout (table_of (Is layout) file t) t.count size h) few-or-many))
+            (ap outcome_said (⊎_elim (λ e. none_refused layout (table_of (Some layout) file t) (size ∙ ap (λ (n : ℕ). n * width layout) e ∙ zero-mul (width layout)))
+            (λ h. many_refused layout (table_of (Some layout) file t) t.count size h) few-or-many))
 
         -- .. or shown.
-        pub table_shown : outcome_said (check_table layout (table_of (Is layout) file (trailer_at file at))) ≡ done
-            → read_at reader file used at ≡ shown (trailer_at file at) (table_of (Is layout) file (trailer_at file at))
+        pub table_shown : outcome_said (check_table layout (table_of (Some layout) file (trailer_at file at))) ≡ done
+            → read_at reader file used at ≡ shown (trailer_at file at) (table_of (Some layout) file (trailer_at file at))
         unfolding outcome_said
         table_shown says =
             read_trailer_law reader file used at Done (sym passes) refl
             ∙ by_acceptance reader file (trailer_at file at) layout knows (outcome_said_law _ Done says)
 
   -- "Its fields fill exactly the bytes up to that trailer", in numbers.
-  pub fills_exactly : (layout : Layout) → known reader (trailer_at file at).layout ≡ Is layout
+  pub fills_exactly : (layout : Layout) → known reader (trailer_at file at).layout ≡ Some layout
       → misfits (known reader (trailer_at file at).layout) (trailer_at file at) at ≡ false
       ↔ (trailer_at file at).start + (trailer_at file at).count * width layout * 4 ≡ at
   fills_exactly layout knows = rw knows (fills_known layout (trailer_at file at) at)
@@ -166,7 +164,7 @@ module _ (reader : Layout) (file : List ℕ) (used at : ℕ) where
 
     -- .. and where nothing is refused, the fields behind those of the tasks counted.
     pub unused_zero : outcome_said r.outcome ≡ done
-        → (layout : Layout) × (known reader r.layout ≡ Is layout) × ((i : ℕ) → r.count * width layout ≤ i → get_or r.fields i 0 ≡ 0)
+        → (layout : Layout) × (known reader r.layout ≡ Some layout) × ((i : ℕ) → r.count * width layout ≤ i → get_or r.fields i 0 ≡ 0)
     unfolding outcome_said
     unused_zero says = either_unused reader file used at r either (outcome_said_law _ Done says)
 
@@ -229,7 +227,7 @@ module _ (layout : Layout) (file : List ℕ) (used : ℕ) (table : List ℕ) whe
       ↔ (outcome_said (check_last file used) ≡ done) × (outcome_said (check_table layout table) ≡ done) × (end ≡ end_after used (length table)) × (end ≤ length file) × (end ≤ 4294967295)
   unfolding appended_said outcome_said
   taken_exactly end = (
-    λ says. let w = took layout file used table end (appended_said_law _ (appends.Used end) says) in
+    λ says. let w = took layout file used table end (appended_said_law _ (Ok end) says) in
         (ap outcome_said w.checks.last, ap outcome_said w.checks.numbers, w.ends, omega (arith, w.ends, w.checks.space.listed), omega (arith, w.ends, w.checks.space.placed)),
     λ w. ap appended_said (sym (answers_used layout file used table Done
         (sym (append_passes layout file used table
@@ -267,7 +265,7 @@ module _ (layout : Layout) (file : List ℕ) (used : ℕ) (table : List ℕ) whe
   unfolding appended_said outcome_said
   full_exactly =
       let w = full layout file used table in (
-        λ says. let p = w.0 (refused_by layout file used table 24 0 (appended_said_law _ (appends.Refused 24 0) says)) in (ap outcome_said p.0, ap outcome_said p.1, p.2),
+        λ says. let p = w.0 (refused_by layout file used table 24 0 (appended_said_law _ (Refused 24 0) says)) in (ap outcome_said p.0, ap outcome_said p.1, p.2),
         λ p. ap appended_said (sym (answers_refused layout file used table (Refused 24 0) (sym (w.1 (outcome_said_law _ Done p.0, outcome_said_law _ Done p.1, p.2))) 24 0 refl)),
       )
 
@@ -275,7 +273,7 @@ module _ (layout : Layout) (file : List ℕ) (used : ℕ) (table : List ℕ) whe
   pub append_21_exactly : appended_said (append_answer layout file used table) ≡ refused 21 0 ↔ (used ≡ 0 → ⊥) × ((length file < used) ⊎ (used < 16))
   unfolding appended_said
   append_21_exactly = (
-    λ says. unread_last layout file used table 0 (refused_by layout file used table 21 0 (appended_said_law _ (appends.Refused 21 0) says)),
+    λ says. unread_last layout file used table 0 (refused_by layout file used table 21 0 (appended_said_law _ (Refused 21 0) says)),
     λ w. last_21 w.0 (not_whole (length file) used (used - 16) ((last_few (length file) used).1 w.1)),
   )
 
@@ -296,11 +294,11 @@ module _ (layout : Layout) (file : List ℕ) (used : ℕ) (table : List ℕ) whe
     where
       go : (o : Outcome) → check_last file used ≡ o → outcome_said o ≡ done
       go Done e = refl
-      go (Refused number place) e =
+      go (Err r) e =
           let some : used ≡ 0 → ⊥ = λ z. let new = new_checked file used z in apart (cc) in
-          let check : check_trailer Two file used (used - 16) ≡ Refused number place = ap (check_trailer Two file used) (sym (last_is used some)) ∙ sym (last_checked file used some) ∙ e in
-          let says = ap (λ (r : Read). outcome_said r.outcome) (read_nothing Two file used (used - 16) (Refused number place) (sym check) number place refl) in
-          let w = last_numbers file used number place e in
+          let check : check_trailer Two file used (used - 16) ≡ Err r = ap (check_trailer Two file used) (sym (last_is used some)) ∙ sym (last_checked file used some) ∙ e in
+          let says = ap (λ (r : Read). outcome_said r.outcome) (read_nothing Two file used (used - 16) (Err r) (sym check) r.number r.place refl) in
+          let w = last_numbers file used r.number r.place e in
           absurd (⊎_elim (λ n. not-21 (says ∙ ap₂ (λ (x y : ℕ). x ∷ y ∷ []) n w.1)) (λ n. not-22 (says ∙ ap₂ (λ (x y : ℕ). x ∷ y ∷ []) n w.1)) w.0)
 
   pub new_passes : used ≡ 0 → outcome_said (check_last file used) ≡ done
@@ -310,13 +308,13 @@ module _ (layout : Layout) (file : List ℕ) (used : ℕ) (table : List ℕ) whe
   -- A refusal writes nothing.
   pub refused_writes_nothing : (number place : ℕ) → appended_said (append_answer layout file used table) ≡ refused number place → append_file layout file used table ≡ file
   unfolding appended_said
-  refused_writes_nothing number place says = refused_keeps layout file used table number place (appended_said_law _ (appends.Refused number place) says)
+  refused_writes_nothing number place says = refused_keeps layout file used table number place (appended_said_law _ (Refused number place) says)
 
   -- Where the table is taken, up to byte `end` ..
   module _ (end : ℕ) (says : appended_said (append_answer layout file used table) ≡ used_length end) where
     is : Took layout file used table end
     unfolding appended_said
-    is = took layout file used table end (appended_said_law _ (appends.Used end) says)
+    is = took layout file used table end (appended_said_law _ (Ok end) says)
 
     -- .. the list is as long as it was, and every byte before the former used length and behind the new one is as it was ..
     pub same_length : length (append_file layout file used table) ≡ length file
@@ -344,14 +342,14 @@ module _ (layout : Layout) (file : List ℕ) (used : ℕ) (table : List ℕ) whe
         (let e : end_after used (length table) - 16 ≡ used + length table * 4 = omega arith in e)
 
     -- .. a reader that knows the layout reads at the new end the table, its count, and the former last trailer ..
-    pub reads_back : (reader : Layout) → known reader (number_of layout) ≡ Is layout → Within32 table
+    pub reads_back : (reader : Layout) → known reader (number_of layout) ≡ Some layout → Within32 table
         → last_answer reader (append_file layout file used table) end
         ≡ record { outcome = Done; layout = number_of layout; before = last_place used; count = length table / width layout; fields = padded 128 table }
     unfolding shown new_trailer
     reads_back reader knows small = at_the_end reader ∙ read_known layout file used table is.checks reader knows small
 
     -- .. one that does not, 23 and the former last trailer ..
-    pub reads_past : (reader : Layout) → known reader (number_of layout) ≡ Unknown
+    pub reads_past : (reader : Layout) → known reader (number_of layout) ≡ None
         → last_answer reader (append_file layout file used table) end
         ≡ record { outcome = Refused 23 (number_of layout); layout = number_of layout; before = last_place used; count = 0; fields = replicate 128 0 }
     unfolding passed_by new_trailer
@@ -363,12 +361,12 @@ module _ (layout : Layout) (file : List ℕ) (used : ℕ) (table : List ℕ) whe
     next_passes = ap outcome_said (next_checked layout file used table end is)
 
 -- A reader of layout 2 knows both layouts, a reader of layout 1 its own.
-pub two_knows : (layout : Layout) → known Two (number_of layout) ≡ Is layout
+pub two_knows : (layout : Layout) → known Two (number_of layout) ≡ Some layout
 unfolding known
 two_knows One = refl
 two_knows Two = refl
 
-pub one_knows : (known One (number_of One) ≡ Is One) × (known One (number_of Two) ≡ Unknown)
+pub one_knows : (known One (number_of One) ≡ Some One) × (known One (number_of Two) ≡ None)
 unfolding known
 one_knows = (refl, refl)
 

@@ -1,12 +1,10 @@
 -- What reading and appending answer, refusals first, and what the lent list of bytes holds afterwards.
-use Rattle.std.specs.Prelude.{ℕ, ◌-◌, ◌/◌, cond, List, ◌++◌, eqb, length, replicate}
+use Rattle.std.specs.Prelude.{ℕ, ◌-◌, ◌/◌, cond, List, ◌++◌, eqb, length, replicate, Option, Result, Ok}
 use Rattle.std.proofs.lemmas.List.Edits.{sets}
-use Rattle.tables.specs.declared.answers.Outcome.TheVariants.{Done, Refused}
+use Rattle.tables.specs.declared.answers.Refusal.{Refusal}
+use Rattle.tables.specs.Outcomes.{Done, Refused}
 use Rattle.tables.specs.Refusals.{unless}
-use Rattle.chain.specs.declared.answers.Appended.{Appended}
-use Rattle.chain.specs.declared.answers.Appended.TheVariants as appends
 use Rattle.chain.specs.declared.answers.Read.{Read}
-use Rattle.chain.specs.declared.layout.Known.{Known}
 use Rattle.chain.specs.declared.layout.Layout.{Layout}
 use Rattle.chain.specs.declared.trailer.Trailer.{Trailer}
 use Rattle.tables.specs.Bytes.{bytes_of}
@@ -28,7 +26,7 @@ unfoldable pub shown : Trailer → List ℕ → Read
 shown t table = record { outcome = Done; layout = t.layout; before = t.before; count = t.count; fields = padded 128 table }
 
 -- what is read of a trailer whose places keep the rules: in a layout that the reader knows or not
-unfoldable pub read_table : Known → List ℕ → Trailer → Read
+unfoldable pub read_table : Option Layout → List ℕ → Trailer → Read
 read_table layout file t = unless (check_shown layout file t) (passed_by t) (shown t (table_of layout file t))
 
 unfoldable pub read_trailer : Layout → List ℕ → Trailer → Read
@@ -52,8 +50,8 @@ new_trailer layout used numbers = record { start = used; before = last_place use
 
 module _ (layout : Layout) (file : List ℕ) (used : ℕ) (table : List ℕ) where
   -- the used length afterwards
-  unfoldable pub append_answer : Appended
-  append_answer = unless (check_append layout file used table) appends.Refused (appends.Used (end_after used (length table)))
+  unfoldable pub append_answer : Result ℕ Refusal
+  append_answer = unless (check_append layout file used table) Refused (Ok (end_after used (length table)))
 
   -- what the lent list holds afterwards: the table at the used length, its trailer behind it, every other byte as it was
   unfoldable pub append_file : List ℕ

@@ -1,10 +1,7 @@
 -- Request Thirteen's refusals, each check under its number, in their order: 21, 22, 23, then 2 to 4 for the table; 24 last.
-use Rattle.std.specs.Prelude.{ℕ, ◌+◌, ◌-◌, ◌*◌, ◌||◌, cond, List, eqb, ltb, length}
-use Rattle.tables.specs.declared.answers.Outcome.{Outcome}
-use Rattle.tables.specs.declared.answers.Outcome.TheVariants.{Done, Refused}
+use Rattle.std.specs.Prelude.{ℕ, ◌+◌, ◌-◌, ◌*◌, ◌||◌, cond, List, eqb, ltb, length, Option, Some, None}
+use Rattle.tables.specs.Outcomes.{Outcome, Done, Refused}
 use Rattle.tables.specs.Refusals.{before, refuse}
-use Rattle.chain.specs.declared.layout.Known.{Known}
-use Rattle.chain.specs.declared.layout.Known.TheVariants.{Is, Unknown}
 use Rattle.chain.specs.declared.layout.Layout.{Layout}
 use Rattle.chain.specs.declared.layout.Layout.TheVariants.{Two}
 use Rattle.chain.specs.declared.trailer.Trailer.{Trailer}
@@ -26,9 +23,9 @@ unfoldable pub check_trailer : Layout → List ℕ → ℕ → ℕ → Outcome
 check_trailer reader file used at = before (check21 (length file) used at) (check22 reader (trailer_at file at) at)
 
 -- 23: a layout the reader does not know, with the layout as the place; then 2 to 4 for the table
-unfoldable pub check_shown : Known → List ℕ → Trailer → Outcome
-check_shown (Is layout) file t = check_table layout (table_of (Is layout) file t)
-check_shown Unknown file t = Refused 23 t.layout
+unfoldable pub check_shown : Option Layout → List ℕ → Trailer → Outcome
+check_shown (Some layout) file t = check_table layout (table_of (Some layout) file t)
+check_shown None file t = Refused 23 t.layout
 
 -- where an append of so many numbers would end: the table, and its trailer behind it
 abbrev pub end_after : ℕ → ℕ → ℕ

@@ -1,11 +1,9 @@
 -- A table's numbers, in the file and in an answer, and "2 to 4 for the table": document 01's checks, of seven numbers per task.
-use Rattle.std.specs.Prelude.{ℕ, ◌+◌, ◌*◌, ◌/◌, ◌%◌, not, List, [], eqb, get_or, length}
+use Rattle.std.specs.Prelude.{ℕ, ◌+◌, ◌*◌, ◌/◌, ◌%◌, not, List, [], eqb, get_or, length, Option, Some, None}
 use Rattle.bits.specs.Below.{list_from}
-use Rattle.tables.specs.declared.answers.Outcome.{Outcome}
+use Rattle.tables.specs.Outcomes.{Outcome}
 use Rattle.tables.specs.Bytes.{number_at}
 use Rattle.tables.specs.Refusals.{before, check_tasks, refuse}
-use Rattle.chain.specs.declared.layout.Known.{Known}
-use Rattle.chain.specs.declared.layout.Known.TheVariants.{Is, Unknown}
 use Rattle.chain.specs.declared.layout.Layout.{Layout}
 use Rattle.chain.specs.declared.layout.Layout.TheVariants.{One, Two}
 use Rattle.chain.specs.declared.trailer.Trailer.{Trailer}
@@ -16,9 +14,9 @@ unfoldable pub numbers_from : List ℕ → ℕ → ℕ → List ℕ
 numbers_from file start n = list_from 0 n (λ i. number_at 4 file (start + i * 4))
 
 -- a trailer's table, in the layout that the reader knows it to have; of any other no fields
-unfoldable pub table_of : Known → List ℕ → Trailer → List ℕ
-table_of (Is layout) file t = numbers_from file t.start (t.count * width layout)
-table_of Unknown file t = []
+unfoldable pub table_of : Option Layout → List ℕ → Trailer → List ℕ
+table_of (Some layout) file t = numbers_from file t.start (t.count * width layout)
+table_of None file t = []
 
 -- a list in room for n numbers: numbers that are not used are 0
 unfoldable pub padded : ℕ → List ℕ → List ℕ

@@ -1,9 +1,8 @@
 -- "Each followed by a trailer: byte place of its table's start, byte place of the preceding trailer (4,294,967,295 for none), layout number,
 -- count of tasks. Every number is 32-bit little-endian": of the crate `tables`, `number_at 4` and, written, `bytes_of 4`.
-use Rattle.std.specs.Prelude.{ℕ, ◌+◌, ◌-◌, ◌*◌, Bool, false, not, cond, List, [], ◌∷◌, eqb}
+use Rattle.std.specs.Prelude.{ℕ, ◌+◌, ◌-◌, ◌*◌, Bool, false, not, cond, List, [], ◌∷◌, eqb, Option, Some, None}
 use Rattle.tables.specs.Bytes.{number_at}
-use Rattle.chain.specs.declared.layout.Known.{Known}
-use Rattle.chain.specs.declared.layout.Known.TheVariants.{Is, Unknown}
+use Rattle.chain.specs.declared.layout.Layout.{Layout}
 use Rattle.chain.specs.declared.trailer.Trailer.{Trailer}
 use Rattle.chain.specs.Layout.{width}
 
@@ -30,9 +29,9 @@ unfoldable pub end_of : ℕ → ℕ
 end_of place = cond (eqb place none) 0 (place + 16)
 
 -- "In a layout the reader knows, its fields fill exactly the bytes up to that trailer": they do not.
-unfoldable pub misfits : Known → Trailer → ℕ → Bool
-misfits (Is layout) t at = not (eqb (t.start + t.count * width layout * 4) at)
-misfits Unknown t at = false
+unfoldable pub misfits : Option Layout → Trailer → ℕ → Bool
+misfits (Some layout) t at = not (eqb (t.start + t.count * width layout * 4) at)
+misfits None t at = false
 
 -- "Reading starts at the last 16 bytes": the place of the last trailer, none where no byte is used.
 unfoldable pub last_place : ℕ → ℕ

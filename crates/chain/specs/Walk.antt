@@ -1,13 +1,9 @@
 -- Reading from a trailer back through the file, and tables appended one behind another: what the theorems of proofs/Promise speak of. No
 -- contract cites it.
-use Rattle.std.specs.Prelude.{ℕ, zero, suc, ◌+◌, ◌/◌, true, false, cond, List, [], ◌∷◌, eqb, length, replicate}
-use Rattle.tables.specs.declared.answers.Outcome.{Outcome}
-use Rattle.tables.specs.declared.answers.Outcome.TheVariants.{Done, Refused}
-use Rattle.chain.specs.declared.answers.Appended.{Appended}
-use Rattle.chain.specs.declared.answers.Appended.TheVariants as appends
+use Rattle.std.specs.Prelude.{ℕ, zero, suc, ◌+◌, ◌/◌, true, false, cond, List, [], ◌∷◌, eqb, length, replicate, Option, Some, None, Result, Ok, Err}
+use Rattle.tables.specs.declared.answers.Refusal.{Refusal}
+use Rattle.tables.specs.Outcomes.{Outcome, Done, Refused}
 use Rattle.chain.specs.declared.answers.Read.{Read}
-use Rattle.chain.specs.declared.layout.Known.{Known}
-use Rattle.chain.specs.declared.layout.Known.TheVariants.{Is, Unknown}
 use Rattle.chain.specs.declared.layout.Layout.{Layout}
 use Rattle.chain.specs.Answers.{append_answer, append_file, read_answer}
 use Rattle.chain.specs.Layout.{known, number_of, width}
@@ -44,10 +40,10 @@ pub record Table : Type 0 where
   pub numbers : List ℕ
 
 -- what a reader is told of it: the table, or 23
-unfoldable pub contents_to : Known → Table → Contents
-contents_to (Is _) t =
+unfoldable pub contents_to : Option Layout → Table → Contents
+contents_to (Some _) t =
     record { outcome = Done; layout = number_of t.layout; count = length t.numbers / width t.layout; fields = padded 128 t.numbers }
-contents_to Unknown t = record { outcome = Refused 23 (number_of t.layout); layout = number_of t.layout; count = 0; fields = replicate 128 0 }
+contents_to None t = record { outcome = Refused 23 (number_of t.layout); layout = number_of t.layout; count = 0; fields = replicate 128 0 }
 
 unfoldable pub contents_of : Layout → Table → Contents
 contents_of reader t = contents_to (known reader (number_of t.layout)) t
@@ -63,9 +59,9 @@ unfoldable pub opened : List ℕ → SeasonFile
 opened lent = record { bytes = lent; used = 0; tables_taken = [] }
 
 -- an append: the caller goes on with the used length that it answers
-unfoldable pub grows_by : Appended → SeasonFile → Table → SeasonFile
-grows_by (appends.Refused number place) s t = record { bytes = append_file t.layout s.bytes s.used t.numbers; used = s.used; tables_taken = s.tables_taken }
-grows_by (appends.Used end) s t = record { bytes = append_file t.layout s.bytes s.used t.numbers; used = end; tables_taken = t ∷ s.tables_taken }
+unfoldable pub grows_by : Result ℕ Refusal → SeasonFile → Table → SeasonFile
+grows_by (Err refusal) s t = record { bytes = append_file t.layout s.bytes s.used t.numbers; used = s.used; tables_taken = s.tables_taken }
+grows_by (Ok end) s t = record { bytes = append_file t.layout s.bytes s.used t.numbers; used = end; tables_taken = t ∷ s.tables_taken }
 
 unfoldable pub grows : SeasonFile → Table → SeasonFile
 grows s t = grows_by (append_answer t.layout s.bytes s.used t.numbers) s t

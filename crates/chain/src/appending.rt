@@ -6,18 +6,17 @@ ghost use Rattle.tables.specs.Bytes.{bytes_of};
 ghost use Rattle.chain.specs.Refusals.{check24, check_last, check_append, end_after};
 ghost use Rattle.chain.specs.Trailer.{trailer_numbers};
 
-use crate::answers::Appended;
 use crate::layout::{Layout, count_of, number_of};
 use crate::table::check_table;
 use crate::trailer::{check_trailer, last_place};
-use tables::{Outcome, before, put_at, refuse};
+use tables::{Outcome, Refusal, put_at, refuse};
 
 // The last trailer checked by 21 and 22, both layouts known; a file with no used bytes has none.
 fn check_last(file: &[u8], used: usize) -> Outcome
     ensures { result ≡ check_last file.now used }
 {
     if used == 0 {
-        return Outcome::Done;
+        return Ok(());
     }
     check_trailer(Layout::Two, file, used, last_place(used))
 }
@@ -38,6 +37,7 @@ fn passes(limit: usize, used: usize, numbers: usize) -> bool
 }
 
 // 24: the end would pass the lent list or 4,294,967,295.
+#[tactic(auto, unfolding(crate::specs::Refusals::check24))]
 fn check24(bytes: usize, used: usize, numbers: usize) -> Outcome
     ensures { result ≡ check24 bytes used numbers }
 {
@@ -47,12 +47,13 @@ fn check24(bytes: usize, used: usize, numbers: usize) -> Outcome
 }
 
 // What an append checks, in its order.
+#[tactic(auto, unfolding(crate::specs::Refusals::check_append, tables::specs::Refusals::before))]
 fn check_append(layout: Layout, file: &[u8], used: usize, table: &[u32]) -> Outcome
     ensures { result ≡ check_append layout file.now used table.now }
 {
-    let room = check24(file.len(), used, table.len());
-    let numbers = check_table(layout, table);
-    before(check_last(file, used), before(numbers, room))
+    check_last(file, used)?;
+    check_table(layout, table)?;
+    check24(file.len(), used, table.len())
 }
 
 // Numbers written one behind another; the place behind them.
@@ -61,12 +62,10 @@ fn put_numbers(file: &mut [u8], at: usize, numbers: &[u32]) -> usize
     ensures writes { file.new ≡ sets file.old at (bytes_of 4 numbers.now) }
     ensures ends { result ≡ at + length numbers.now * 4 }
 {
-    let mut i: usize = 0;
-    while i < numbers.len() {
-        put_at(file, at + i * 4, numbers[i]);
-        i += 1;
+    for (i, number) in numbers.iter().enumerate() {
+        put_at(file, at + i * 4, *number);
     }
-    at + i * 4
+    at + numbers.len() * 4
 }
 
 // The numbers of the trailer behind a table of so many numbers at the used length.
@@ -93,13 +92,10 @@ fn put_table(layout: Layout, file: &mut [u8], used: usize, table: &[u32]) -> usi
 
 // A table written at the used length with its trailer behind it, every other byte as it was; the used length afterwards. Used length 0 starts
 // a new file. Refusals: 21 and 22 for the last trailer, 2 to 4 for the table, then 24; nothing is written.
-pub fn append(layout: Layout, file: &mut [u8], used: usize, table: &[u32]) -> Appended
+pub fn append(layout: Layout, file: &mut [u8], used: usize, table: &[u32]) -> Result<usize, Refusal>
     ensures answers { result ≡ append_answer layout file.old used table.now }
     ensures writes { file.new ≡ append_file layout file.old used table.now }
 {
-    let found = check_append(layout, file, used, table);
-    match found {
-        Outcome::Done => Appended::Used(put_table(layout, file, used, table)),
-        Outcome::Refused(number, place) => Appended::Refused(number, place),
-    }
+    check_append(layout, file, used, table)?;
+    Ok(put_table(layout, file, used, table))
 }

@@ -3,27 +3,17 @@ ghost use Rattle.std.specs.Prelude.{◌≡◌, ◌*◌, ◌/◌, ◌≤◌};
 ghost use Rattle.chain.specs.Layout.{width, number_of, known};
 
 // One: document 01's seven numbers per task. Two: an eighth behind them, a label.
-#[derive(Clone, Copy)]
+#[derive(Clone, Copy, Debug, PartialEq, Eq)]
 pub enum Layout {
-    One,
-    Two,
-}
-
-// A layout number, to a reader.
-#[derive(Clone, Copy)]
-pub(crate) enum Known {
-    Is(Layout),
-    Unknown,
+    One = 1,
+    Two = 2,
 }
 
 // The layout's own number.
 pub(crate) fn number_of(layout: Layout) -> u32
     ensures { result ≡ number_of layout }
 {
-    match layout {
-        Layout::One => 1,
-        Layout::Two => 2,
-    }
+    layout as u32
 }
 
 // How many numbers so many tasks have.
@@ -48,26 +38,14 @@ pub(crate) fn count_of(layout: Layout, numbers: usize) -> usize
     }
 }
 
-// The layout that a number names, if the reader knows it: a reader of layout 2 knows both.
-pub(crate) fn known_to(reader: Layout, number: u32) -> Known
+// The layout that a number names, if the reader knows it: a reader of layout 2 knows both. No `TryFrom`, as it depends on the reader.
+#[tactic(auto, unfolding(crate::specs::Layout::known))]
+pub(crate) fn known_to(reader: Layout, number: u32) -> Option<Layout>
     ensures { result ≡ known reader number }
 {
-    match reader {
-        Layout::One => {
-            if number == 1 {
-                Known::Is(Layout::One)
-            } else {
-                Known::Unknown
-            }
-        }
-        Layout::Two => {
-            if number == 1 {
-                Known::Is(Layout::One)
-            } else if number == 2 {
-                Known::Is(Layout::Two)
-            } else {
-                Known::Unknown
-            }
-        }
+    match (reader, number) {
+        (_, 1) => Some(Layout::One),
+        (Layout::Two, 2) => Some(Layout::Two),
+        _ => None,
     }
 }

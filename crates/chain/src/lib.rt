@@ -9,9 +9,9 @@ mod reading;
 mod table;
 mod trailer;
 
-pub use answers::{Appended, Read};
+pub use answers::Read;
 pub use appending::append;
 pub use layout::Layout;
 pub use reading::{last, read};
-pub use tables::Outcome;
+pub use tables::{Outcome, Refusal};
 pub use trailer::NONE;

@@ -1,21 +1,21 @@
 // Reading a table at its trailer's place, and at the last 16 bytes.
-ghost use Rattle.std.specs.Prelude.{◌≡◌};
-ghost use Rattle.chain.specs.declared.layout.Known.{Known};
+ghost use Rattle.std.specs.Prelude.{◌≡◌, Some};
 ghost use Rattle.chain.specs.Answers.{nothing, passed_by, read_table, read_trailer, read_at, read_answer, last_answer};
 
 use crate::answers::Read;
-use crate::layout::{Known, Layout, known_to, numbers_of};
+use crate::layout::{Layout, known_to, numbers_of};
 use crate::table::{check_table, decode, zeros};
 use crate::trailer::{NONE, Trailer, check_trailer, trailer_at};
-use tables::Outcome;
+use tables::Refusal;
 
 // Nothing is told of the trailer, and there is none to go on to.
+#[tactic(auto, unfolding(crate::specs::Answers::nothing))]
 fn nothing(number: u32, place: u32) -> Read
     ensures { result ≡ nothing number place }
 {
     let fields = zeros();
     Read {
-        outcome: Outcome::Refused(number, place),
+        outcome: Err(Refusal { number, place }),
         layout: 0,
         before: NONE,
         count: 0,
@@ -24,12 +24,13 @@ fn nothing(number: u32, place: u32) -> Read
 }
 
 // No fields, but the trailer to go on to.
+#[tactic(auto, unfolding(crate::specs::Answers::passed_by))]
 fn passed_by(trailer: Trailer, number: u32, place: u32) -> Read
     ensures { result ≡ passed_by trailer number place }
 {
     let fields = zeros();
     Read {
-        outcome: Outcome::Refused(number, place),
+        outcome: Err(Refusal { number, place }),
         layout: trailer.layout,
         before: trailer.before,
         count: 0,
@@ -39,7 +40,7 @@ fn passed_by(trailer: Trailer, number: u32, place: u32) -> Read
 
 // The table of a trailer in a layout the reader knows, or 2 to 4.
 fn read_table(layout: Layout, file: &[u8], trailer: Trailer) -> Read
-    ensures { result ≡ read_table (Known.Is layout) file.now trailer }
+    ensures { result ≡ read_table (Some layout) file.now trailer }
 {
     let count = trailer.count;
     if 16 < count {
@@ -47,16 +48,15 @@ fn read_table(layout: Layout, file: &[u8], trailer: Trailer) -> Read
     }
     let n = numbers_of(layout, count) as usize;
     let fields = decode(file, trailer.start, n);
-    let found = check_table(layout, &fields[..n]);
-    match found {
-        Outcome::Done => Read {
-            outcome: Outcome::Done,
+    match check_table(layout, &fields[..n]) {
+        Ok(()) => Read {
+            outcome: Ok(()),
             layout: trailer.layout,
             before: trailer.before,
             count,
             fields,
         },
-        Outcome::Refused(number, place) => passed_by(trailer, number, place),
+        Err(refusal) => passed_by(trailer, refusal.number, refusal.place),
     }
 }
 
@@ -64,21 +64,19 @@ fn read_table(layout: Layout, file: &[u8], trailer: Trailer) -> Read
 fn read_trailer(reader: Layout, file: &[u8], trailer: Trailer) -> Read
     ensures { result ≡ read_trailer reader file.now trailer }
 {
-    let layout = known_to(reader, trailer.layout);
-    match layout {
-        Known::Is(own) => read_table(own, file, trailer),
-        Known::Unknown => passed_by(trailer, 23, trailer.layout),
-    }
+    let Some(own) = known_to(reader, trailer.layout) else {
+        return passed_by(trailer, 23, trailer.layout);
+    };
+    read_table(own, file, trailer)
 }
 
 // What is read of the trailer at a place: 21 and 22 first.
 fn read_at(reader: Layout, file: &[u8], used: usize, at: usize) -> Read
     ensures { result ≡ read_at reader file.now used at }
 {
-    let found = check_trailer(reader, file, used, at);
-    match found {
-        Outcome::Done => read_trailer(reader, file, trailer_at(file, at)),
-        Outcome::Refused(number, place) => nothing(number, place),
+    match check_trailer(reader, file, used, at) {
+        Ok(()) => read_trailer(reader, file, trailer_at(file, at)),
+        Err(refusal) => nothing(refusal.number, refusal.place),
     }
 }
 

@@ -3,7 +3,7 @@ ghost use Rattle.std.specs.Prelude.{◌≡◌, ◌+◌, ◌*◌, ◌<◌, ◌≤
 ghost use Rattle.chain.specs.Table.{numbers_from, padded, unlabelled, check_table};
 
 use crate::layout::Layout;
-use tables::{Outcome, check_tasks, number_at};
+use tables::{Outcome, check_tasks, number_at, refuse};
 
 // 128 numbers, each 0.
 pub(crate) fn zeros() -> [u32; 128]
@@ -19,10 +19,8 @@ pub(crate) fn decode(file: &[u8], start: u32, n: usize) -> [u32; 128]
 {
     let mut out = zeros();
     let first = start as usize;
-    let mut i: usize = 0;
-    while i < n {
+    for i in 0..n {
         out[i] = number_at(file, first + i * 4);
-        i += 1;
     }
     out
 }
@@ -33,11 +31,8 @@ fn unlabelled(table: &[u32]) -> [u32; 112]
     ensures { result ≡ padded 112 (unlabelled table.now) }
 {
     let mut out = [0u32; 112];
-    let n = table.len() / 8 * 7;
-    let mut i: usize = 0;
-    while i < n {
+    for i in 0..table.len() / 8 * 7 {
         out[i] = table[i / 7 * 8 + i % 7];
-        i += 1;
     }
     out
 }
@@ -47,15 +42,14 @@ fn check_labelled(table: &[u32]) -> Outcome
     ensures { result ≡ check_table Layout.Two table.now }
 {
     let count = table.len() / 8;
-    if (table.len() % 8 != 0) | (16 < count) {
-        return Outcome::Refused(2, 0);
-    }
+    refuse((table.len() % 8 != 0) | (16 < count), 2, 0)?;
     let sevens = unlabelled(table);
     let n = count * 7;
     check_tasks(&sevens[..n])
 }
 
 // 2 to 4 for a table.
+#[tactic(auto, unfolding(crate::specs::Table::check_table))]
 pub(crate) fn check_table(layout: Layout, table: &[u32]) -> Outcome
     ensures { result ≡ check_table layout table.now }
 {

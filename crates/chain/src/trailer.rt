@@ -4,14 +4,14 @@ ghost use Rattle.std.specs.Prelude.{◌≡◌, ◌+◌, ◌≤◌, length};
 ghost use Rattle.chain.specs.Trailer.{trailer_at, end_of, last_place, misfits};
 ghost use Rattle.chain.specs.Refusals.{check21, check22, check_trailer};
 
-use crate::layout::{Known, Layout, known_to, numbers_of};
+use crate::layout::{Layout, known_to, numbers_of};
 use tables::{Outcome, number_at, refuse};
 
-// The place of the preceding trailer where there is none.
+// The place of the preceding trailer where there is none: a number and no `Option`, as a file holds it and `read` takes it.
 pub const NONE: u32 = 4294967295;
 
 // What a trailer says, each a number of four bytes.
-#[derive(Clone, Copy)]
+#[derive(Clone, Copy, Debug, PartialEq, Eq)]
 pub(crate) struct Trailer {
     // the byte place at which its table starts
     pub start: u32,
@@ -22,6 +22,7 @@ pub(crate) struct Trailer {
 }
 
 // The trailer at a place.
+#[tactic(auto, unfolding(crate::specs::Trailer::trailer_at))]
 pub(crate) fn trailer_at(file: &[u8], at: usize) -> Trailer
     requires { at + 16 ≤ length file.now }
     ensures { result ≡ trailer_at file.now at }
@@ -46,15 +47,16 @@ fn end_of(before: u32) -> u64
 }
 
 // In a layout the reader knows, the table's numbers do not fill exactly the bytes up to the trailer.
-fn misfits(layout: Known, trailer: Trailer, at: usize) -> bool
+#[tactic(auto, unfolding(crate::specs::Trailer::misfits))]
+fn misfits(layout: Option<Layout>, trailer: Trailer, at: usize) -> bool
     ensures { result ≡ misfits layout trailer at }
 {
     match layout {
-        Known::Is(own) => {
+        Some(own) => {
             let bytes = numbers_of(own, trailer.count) * 4;
-            !((trailer.start as u64) + bytes == (at as u64))
+            (trailer.start as u64) + bytes != (at as u64)
         }
-        Known::Unknown => false,
+        None => false,
     }
 }
 
@@ -62,13 +64,12 @@ fn misfits(layout: Known, trailer: Trailer, at: usize) -> bool
 fn check21(bytes: usize, used: usize, at: usize) -> Outcome
     ensures { result ≡ check21 bytes used at }
 {
-    if used < 16 {
-        return Outcome::Refused(21, 0);
-    }
+    refuse(used < 16, 21, 0)?;
     refuse((bytes < used) | (used - 16 < at), 21, 0)
 }
 
 // 22: a place that breaks the rules.
+#[tactic(auto, unfolding(crate::specs::Refusals::check22))]
 fn check22(reader: Layout, trailer: Trailer, at: usize) -> Outcome
     ensures { result ≡ check22 reader trailer at }
 {
@@ -79,14 +80,12 @@ fn check22(reader: Layout, trailer: Trailer, at: usize) -> Outcome
 }
 
 // 21, then 22.
+#[tactic(auto, unfolding(crate::specs::Refusals::check_trailer, tables::specs::Refusals::before))]
 pub(crate) fn check_trailer(reader: Layout, file: &[u8], used: usize, at: usize) -> Outcome
     ensures { result ≡ check_trailer reader file.now used at }
 {
-    let whole = check21(file.len(), used, at);
-    match whole {
-        Outcome::Done => check22(reader, trailer_at(file, at), at),
-        Outcome::Refused(number, place) => Outcome::Refused(number, place),
-    }
+    check21(file.len(), used, at)?;
+    check22(reader, trailer_at(file, at), at)
 }
 
 // The place of the last trailer, none where no byte is used.
@@ -95,9 +94,7 @@ pub(crate) fn last_place(used: usize) -> usize
 {
     if used == 0 {
         NONE as usize
-    } else if used < 16 {
-        0
     } else {
-        used - 16
+        used.saturating_sub(16)
     }
 }

@@ -2,156 +2,124 @@
 use crate::chains::try_chains;
 use crate::seasons::try_seasons;
 use crate::stretches::{horizon_of, try_long, try_stretches};
-use crate::tally::report;
+use crate::tally::Desk;
 use crate::texts::try_texts;
 use crate::windows::try_windows;
 use drawn::damage::damaged;
 use drawn::draw::draw;
 use drawn::inputs::{Input, Size, long, make_input, short};
-use drawn::list::{Case, front};
-use drawn::tally::{CALLS, DIFFERENCES, INPUTS, Tally, add, count, nothing, print_input, text};
+use drawn::list::Case;
 use std::io;
+use zsrm::Mode;
 
-// The kinds of trials.
-const STRETCHES: u32 = 0;
+#[derive(Clone, Copy)]
+enum Group {
+    Stretches,
+    LongQuestions,
+    Windows,
+    Seasons,
+    Chains,
+    Texts,
+}
 
-const LONG_QUESTIONS: u32 = 1;
+impl Group {
+    fn title(self) -> &'static str {
+        match self {
+            Group::Stretches => "stretches",
+            Group::LongQuestions => "long questions",
+            Group::Windows => "windows",
+            Group::Seasons => "seasons",
+            Group::Chains => "chains",
+            Group::Texts => "texts",
+        }
+    }
 
-const WINDOWS: u32 = 2;
+    fn how_many(self) -> u32 {
+        match self {
+            Group::LongQuestions => 1,
+            Group::Chains => 700,
+            _ => 1400,
+        }
+    }
 
-const SEASONS: u32 = 3;
-
-const CHAINS: u32 = 4;
-
-const TEXTS: u32 = 5;
-
-const KINDS: u32 = 6;
-
-fn title(rt: &impl Print, kind: u32) -> io::Result<()> {
-    match kind {
-        LONG_QUESTIONS => text(rt, b"long questions"),
-        WINDOWS => text(rt, b"windows"),
-        SEASONS => text(rt, b"seasons"),
-        CHAINS => text(rt, b"chains"),
-        TEXTS => text(rt, b"texts"),
-        _ => text(rt, b"stretches"),
+    // The input of a trial, one time in five damaged.
+    fn input(self, trial: u32) -> Input {
+        let mode = if trial % 2 == 1 { Mode::SE } else { Mode::S };
+        let whole = match self {
+            Group::LongQuestions => return make_input(trial, mode, long(trial)),
+            Group::Stretches => {
+                let horizon = horizon_of(trial);
+                Input {
+                    horizon,
+                    room: horizon as usize,
+                    ..make_input(trial, mode, some_size(trial))
+                }
+            }
+            Group::Windows => make_input(trial, mode, size_for_windows(trial)),
+            _ => make_input(trial, mode, some_size(trial)),
+        };
+        if draw(trial, 75, 5) == 0 {
+            damaged(whole, trial, 20000)
+        } else {
+            whole
+        }
     }
 }
 
-fn how_many(kind: u32) -> u32 {
-    match kind {
-        LONG_QUESTIONS => 1,
-        CHAINS => 700,
-        _ => 1400,
-    }
+// Mostly a few tasks and jobs, one time in twenty as many as are allowed.
+fn some_size(trial: u32) -> Size {
+    short(trial, draw(trial, 73, 20) == 0)
 }
 
-// Mostly a few tasks and jobs, one time in twenty as many as are allowed; for windows, so that they are many and wide, every other time 1 or 2
-// tasks and up to 64 jobs.
-fn size_of(kind: u32, trial: u32) -> Size {
-    let mut size = short(trial, draw(trial, 73, 20) == 0);
-    if (kind == WINDOWS) & (draw(trial, 72, 2) == 0) {
+// Windows are to be many and wide: every other time 1 or 2 tasks and up to 64 jobs.
+fn size_for_windows(trial: u32) -> Size {
+    let mut size = some_size(trial);
+    if draw(trial, 72, 2) == 0 {
         size.tasks = 1 + draw(trial, 8, 2);
         size.jobs = draw(trial, 9, 65);
     }
     size
 }
 
-// The input of a trial, one time in five damaged.
-fn input_of(kind: u32, trial: u32, se: bool) -> Input {
-    if kind == LONG_QUESTIONS {
-        return make_input(trial, se, long(trial));
+// One input tried; what made a difference is written with it. Where more entries would be lent than the longest schedule has, none is.
+fn try_input(desk: &mut Desk<impl Print>, group: Group, trial: u32) -> io::Result<()> {
+    let input = group.input(trial);
+    let mut case = input.case(trial);
+    case.room = input.room % 16385;
+    let before = desk.tally.differences;
+    desk.tally.begin();
+    match group {
+        Group::Stretches => try_stretches(desk, case)?,
+        Group::LongQuestions => try_long(desk, case)?,
+        Group::Windows => try_windows(desk, case)?,
+        Group::Seasons => try_seasons(desk, trial, case.tasks)?,
+        Group::Chains => try_chains(desk, trial)?,
+        Group::Texts => try_texts(desk, trial)?,
     }
-    let mut whole = make_input(trial, se, size_of(kind, trial));
-    if kind == STRETCHES {
-        let horizon = horizon_of(trial);
-        whole.horizon = horizon;
-        whole.room = horizon as usize;
-    }
-    if draw(trial, 75, 5) == 0 {
-        damaged(whole, trial, 20000)
-    } else {
-        whole
-    }
-}
-
-// A trial of a kind. What made a difference is written with its input.
-fn try_case(
-    rt: &impl Print,
-    t: &mut Tally,
-    kind: u32,
-    case: Case,
-    tasks: &[u32],
-    jobs: &[u32],
-) -> io::Result<()> {
-    let before = count(t, DIFFERENCES);
-    add(t, INPUTS, 1);
-    match kind {
-        LONG_QUESTIONS => try_long(rt, t, case, tasks, jobs)?,
-        WINDOWS => try_windows(rt, t, case, tasks, jobs)?,
-        SEASONS => try_seasons(rt, t, case.trial, tasks)?,
-        CHAINS => try_chains(rt, t, case.trial)?,
-        TEXTS => try_texts(rt, t, case.trial)?,
-        _ => try_stretches(rt, t, case, tasks, jobs)?,
-    }
-    if before < count(t, DIFFERENCES) {
-        print_input(rt, case, tasks, jobs)?;
+    if before < desk.tally.differences {
+        desk.print_input(case)?;
     }
     Ok(())
 }
 
-// One input tried. Where more entries would be lent than the longest schedule has, none is.
-fn trial_of(rt: &impl Print, t: &mut Tally, kind: u32, trial: u32) -> io::Result<()> {
-    let se = trial % 2 == 1;
-    let inp = input_of(kind, trial, se);
-    let task_list = inp.tasks;
-    let job_list = inp.jobs;
-    let tasks = task_list.at;
-    let jobs = job_list.at;
-    let case = Case {
-        trial,
-        se,
-        way: draw(trial, 74, 2),
-        horizon: inp.horizon,
-        room: inp.room % 16385,
-    };
-    try_case(
-        rt,
-        t,
-        kind,
-        case,
-        front(&tasks, task_list.len),
-        front(&jobs, job_list.len),
-    )
-}
-
-// The trials of a kind, each with a number of its own.
-fn trials(rt: &impl Print, t: &mut Tally, kind: u32, n: u32) -> io::Result<()> {
-    let first = 10000000 + 200000 * (kind % 16);
-    for i in 0..n {
-        trial_of(rt, t, kind, std::num::wrapping_add_u32(first, i))?;
+// Every group, each trial with a number of its own, and the sum of them all.
+pub(crate) fn all(rt: &(impl Print + AllocGlobal)) -> io::Result<()> {
+    let mut sum = Desk::new(rt);
+    for group in [
+        Group::Stretches,
+        Group::LongQuestions,
+        Group::Windows,
+        Group::Seasons,
+        Group::Chains,
+        Group::Texts,
+    ] {
+        let mut desk = Desk::new(rt);
+        let first = 10000000 + 200000 * (group as u32);
+        for i in 0..group.how_many() {
+            try_input(&mut desk, group, first.wrapping_add(i))?;
+        }
+        desk.report(group.title())?;
+        sum.tally.add_totals(&desk.tally);
     }
-    Ok(())
-}
-
-// A group, counted by itself and into the sum of all.
-fn group(rt: &impl Print, sum: &mut Tally, kind: u32) -> io::Result<()> {
-    let mut t = nothing();
-    trials(rt, &mut t, kind, how_many(kind))?;
-    title(rt, kind)?;
-    report(rt, &t)?;
-    add(sum, INPUTS, count(&t, INPUTS));
-    add(sum, CALLS, count(&t, CALLS));
-    add(sum, DIFFERENCES, count(&t, DIFFERENCES));
-    Ok(())
-}
-
-// Every group, and the sum of them all.
-pub(crate) fn all(rt: &impl Print) -> io::Result<()> {
-    let mut sum = nothing();
-    for kind in 0..KINDS {
-        group(rt, &mut sum, kind)?;
-    }
-    text(rt, b"all")?;
-    report(rt, &sum)
+    sum.report("all")
 }

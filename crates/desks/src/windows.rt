@@ -1,21 +1,20 @@
 // Deadline misses over a window, against windows counted one by one from verdicts asked one by one.
-use crate::tally::{FEWER_JOBS, JUDGE, LATER_WINDOW, OPEN_JOBS};
-use drawn::answers::{
-    AT_LEAST, DONE, ENDED, NUMBERED, OPEN, OUTSIDE, REFUSED, answer_if, mode_of, of_outcome,
-    of_verdict, refused, tie_of,
-};
+use crate::tally::{Beside, Call, Desk};
+use drawn::answers::Answer;
 use drawn::draw::draw;
-use drawn::judge::{FINE, late, lists_key, refusal};
-use drawn::list::{Case, List, OWNER, at, job, least, list_of, no_line};
-use drawn::tally::{Tally, add, note};
-use std::io;
+use drawn::judge::{Fault, first, lists_fault, refusal, rule};
+use drawn::list::{Case, OWNER, lent, no_line};
+use std::{array, io};
 use window::Windows;
-use zsrm::{Mode, Ran, Record, Tie};
+use zsrm::{Ran, Record, Refusal};
 
-// What is said of a job: it is missed, open, or neither.
-const MISSED_JOB: u32 = 1;
-
-const OPEN_JOB: u32 = 2;
+// What is said of a job.
+#[derive(Clone, Copy, PartialEq, Eq)]
+enum Fate {
+    Missed,
+    Open,
+    Neither,
+}
 
 // A question: whether every k consecutive jobs of the task contain at most m misses.
 #[derive(Clone, Copy)]
@@ -25,111 +24,82 @@ struct Question {
     k: u32,
 }
 
-// The jobs of a task: their numbers, and what is said of each.
+// A job of a task: its number, and what is said of it.
 #[derive(Clone, Copy)]
 struct Own {
-    numbers: List,
-    fates: List,
+    number: u32,
+    fate: Fate,
 }
 
-// 0 where every window passes, NUMBERED and its first job's number where one fails, or a refusal; its misses; how many jobs are open.
+// Done where every window passes, the number of its first job where one fails, or a refusal; its misses; how many jobs are open.
 #[derive(Clone, Copy)]
 struct Judged {
-    answer: u64,
-    misses: u32,
-    opens: u32,
+    answer: Answer,
+    misses: usize,
+    opens: usize,
 }
 
-fn of_windows(windows: Windows) -> Judged {
+fn of_windows(windows: Result<Windows, Refusal>) -> Judged {
     match windows {
-        Windows::Refused(number, place) => Judged {
-            answer: refused(number, place),
+        Err(refusal) => Judged {
+            answer: Answer::from(refusal),
             misses: 0,
             opens: 0,
         },
-        Windows::Passes(opens) => Judged {
-            answer: DONE,
+        Ok(Windows::Passes(opens)) => Judged {
+            answer: Answer::Done,
             misses: 0,
-            opens,
+            opens: opens as usize,
         },
-        Windows::Fails(first, misses, opens) => Judged {
-            answer: NUMBERED + (first as u64),
-            misses,
-            opens,
+        Ok(Windows::Fails(job, misses, opens)) => Judged {
+            answer: Answer::Numbered(job),
+            misses: misses as usize,
+            opens: opens as usize,
         },
     }
 }
 
-// What is said of every job.
-fn fates(rec: Record, case: Case, tasks: &[u32], jobs: &[u32]) -> List {
-    let mut list = list_of(&[0; 0]);
-    for j in 0..64 {
-        let v = of_verdict(zsrm::verdict(rec, mode_of(case.se), tasks, jobs, j));
-        let missed = (v == ENDED) | ((AT_LEAST <= v) & (v < OUTSIDE));
-        list = list.push(if missed {
-            MISSED_JOB
-        } else if v == OPEN {
-            OPEN_JOB
-        } else {
-            0
-        });
+fn fate_of(rec: Record, case: Case, j: u32) -> Fate {
+    match Answer::from(zsrm::verdict(rec, case.mode, case.tasks, case.jobs, j)) {
+        Answer::Ended | Answer::Late { .. } => Fate::Missed,
+        Answer::Open => Fate::Open,
+        _ => Fate::Neither,
     }
-    list
 }
 
-// The jobs of a task, where this is said of all.
-fn own_jobs(jobs: &[u32], all: List, task: u32) -> Own {
-    let mut numbers = list_of(&[0; 0]);
-    let mut fates = list_of(&[0; 0]);
-    for j in 0..64 {
-        if (j < jobs.len() / 3) & (job(jobs, j, OWNER) == task) {
-            numbers = numbers.push((j % 64) as u32);
-            fates = fates.push(all.get(j));
+// How many of some jobs have this fate.
+fn how_many(own: &[Own], fate: Fate) -> usize {
+    own.iter().filter(|job| job.fate == fate).count()
+}
+
+// The windows of k jobs counted one by one, up to the first that fails.
+fn counted(own: &[Own], m: usize, k: usize) -> Judged {
+    let opens = how_many(own, Fate::Open);
+    for window in own.windows(k.max(1)) {
+        let misses = how_many(window, Fate::Missed);
+        if let Some(job) = window.first()
+            && m < misses
+        {
+            return Judged {
+                answer: Answer::Numbered(job.number),
+                misses,
+                opens,
+            };
         }
     }
-    Own { numbers, fates }
-}
-
-// How many of the jobs from one up to another have this fate.
-fn how_many(fates: &[u32; 224], from: usize, to: usize, fate: u32) -> u32 {
-    let mut sum: u32 = 0;
-    for i in from..to {
-        if at(fates, i) == fate {
-            sum = sum % 65536 + 1;
-        }
-    }
-    sum
-}
-
-// The windows counted one by one, from the last to the first: the earliest that fails is found last.
-fn counted(own: Own, m: u32, k: usize) -> Judged {
-    let numbers = own.numbers;
-    let list = own.fates;
-    let n = list.len;
-    let fates = list.at;
-    let mut due = Judged {
-        answer: DONE,
+    Judged {
+        answer: Answer::Done,
         misses: 0,
-        opens: how_many(&fates, 0, n, OPEN_JOB),
-    };
-    for back in 0..64 {
-        let i = 63 - back % 64;
-        let end = i + k % 128;
-        let misses = how_many(&fates, i, end, MISSED_JOB);
-        if (end <= n) & (m < misses) {
-            due.answer = NUMBERED + (numbers.get(i) as u64);
-            due.misses = misses;
-        }
+        opens,
     }
-    due
 }
 
 // K mostly from 1 to 12, at times from 13 to 64, one time in twelve 0 or over 64; m mostly at most half of K, at times up to K + 1; one time
 // in twelve a task that is not there.
-fn a_question(trial: u32, tasks: &[u32], place: u32) -> Question {
-    let n = ((tasks.len() / 7) % 64) as u32;
+fn a_question(case: Case, place: u32) -> Question {
+    let trial = case.trial;
+    let n = (case.task_count() % 64) as u32;
     let at = 1700 + 8 * (place % 64);
-    let strange = draw(trial, at, 12) == 0;
     let other = draw(trial, at + 1, 52);
     let k = match draw(trial, at + 2, 24) {
         0 => 0,
@@ -137,128 +107,105 @@ fn a_question(trial: u32, tasks: &[u32], place: u32) -> Question {
         2 => 13 + other,
         _ => 1 + draw(trial, at + 3, 12),
     };
-    let half = draw(trial, at + 4, k / 2 % 128 + 1);
-    let any = draw(trial, at + 4, k % 128 + 2);
+    let most = match draw(trial, at + 6, 6) {
+        0 => k + 1,
+        _ => k / 2,
+    };
     Question {
-        task: if strange { n } else { draw(trial, at + 5, n) },
-        m: if draw(trial, at + 6, 6) == 0 {
-            any
-        } else {
-            half
+        task: match draw(trial, at, 12) {
+            0 => n,
+            _ => draw(trial, at + 5, n),
         },
+        m: draw(trial, at + 4, most + 1),
         k,
     }
 }
 
 // What a question is refused for.
-fn key_of(rec: Record, tasks: &[u32], jobs: &[u32], q: Question) -> u32 {
-    let unfit = late(16384 < rec.tick, 11);
-    let pair = late((q.k == 0) | (64 < q.k) | (q.k < q.m), 19);
-    let unknown = late(tasks.len() / 7 <= (q.task as usize), 20);
-    least(lists_key(tasks, jobs), least(unfit, least(pair, unknown)))
-}
-
-// What is counted beside the answer.
-fn count_beside(t: &mut Tally, own: Own, due: Judged, k: u32) {
-    let numbers = own.numbers;
-    let first = NUMBERED + (numbers.get(0) as u64);
-    if (due.answer == DONE) & (numbers.len < (k as usize)) {
-        add(t, FEWER_JOBS, 1);
-    }
-    if (first < due.answer) & (due.answer < REFUSED) {
-        add(t, LATER_WINDOW, 1);
-    }
-    if 0 < due.opens {
-        add(t, OPEN_JOBS, 1);
-    }
+fn fault_of(rec: Record, case: Case, q: Question) -> Option<Fault> {
+    first(&[
+        lists_fault(case.tasks, case.jobs),
+        rule(16384 < rec.tick, 11),
+        rule((q.k == 0) | (64 < q.k) | (q.k < q.m), 19),
+        rule(case.task_count() <= (q.task as usize), 20),
+    ])
 }
 
 // One question, its answer against the count.
 fn try_question(
-    rt: &impl Print,
-    t: &mut Tally,
+    desk: &mut Desk<impl Print>,
     rec: Record,
     case: Case,
-    tasks: &[u32],
-    jobs: &[u32],
-    all: List,
+    fates: &[Fate; 64],
     q: Question,
 ) -> io::Result<()> {
-    let key = key_of(rec, tasks, jobs, q);
-    let own = own_jobs(jobs, all, q.task);
-    let due = if key == FINE {
-        counted(own, q.m, q.k as usize)
-    } else {
-        Judged {
-            answer: refusal(key),
+    let mut own = Vec::new(desk.alloc);
+    for (j, fate) in fates.iter().enumerate().take(case.job_count()) {
+        if case.job(j, OWNER) == q.task {
+            own.push(Own {
+                number: (j % 64) as u32,
+                fate: *fate,
+            })?;
+        }
+    }
+    let due = match fault_of(rec, case, q) {
+        Some(fault) => Judged {
+            answer: Answer::from(fault),
             misses: 0,
             opens: 0,
-        }
+        },
+        None => counted(own.as_slice(), q.m as usize, q.k as usize),
     };
-    let mode = mode_of(case.se);
-    let got = of_windows(window::judge(rec, mode, tasks, jobs, q.task, q.m, q.k));
-    let same = (got.misses == due.misses) & (got.opens == due.opens);
-    let answer = answer_if(got.answer, true, true, same);
-    note(rt, t, JUDGE, q.task, due.answer, answer)?;
-    count_beside(t, own, due, q.k);
+    let came = of_windows(window::judge(rec, case.mode, case.tasks, case.jobs, q.task, q.m, q.k));
+    let same = (came.misses == due.misses) & (came.opens == due.opens);
+    desk.note(
+        Call::Judge,
+        q.task,
+        due.answer,
+        came.answer.and_record(same),
+    )?;
+    if (due.answer == Answer::Done) & (own.len() < (q.k as usize)) {
+        desk.add(Call::Judge, Beside::FewerJobs, 1);
+    }
+    if let (Answer::Numbered(number), Some(job)) = (due.answer, own.first())
+        && job.number < number
+    {
+        desk.add(Call::Judge, Beside::LaterWindow, 1);
+    }
+    if 0 < due.opens {
+        desk.add(Call::Judge, Beside::OpenJobs, 1);
+    }
     Ok(())
 }
 
-// A run with so many entries lent, or all where there are fewer.
-fn lent_run(
-    mode: Mode,
-    tie: Tie,
-    tasks: &[u32],
-    jobs: &[u32],
-    horizon: u32,
-    line: &mut [u16],
-    room: usize,
-) -> Ran {
-    if room <= line.len() {
-        zsrm::run(mode, tie, tasks, jobs, horizon, &mut line[0..room])
-    } else {
-        zsrm::run(mode, tie, tasks, jobs, horizon, line)
-    }
-}
-
 // The record of a run; where it is refused, the fresh one.
-fn record_of(ran: Ran, tasks: &[u32], jobs: &[u32]) -> Record {
-    let outcome = ran.outcome;
-    let end = ran.record;
-    let start = end.fresh(tasks, jobs);
-    if of_outcome(outcome) == DONE {
-        end
+fn record_of(ran: Ran, case: Case) -> Record {
+    if Answer::from(ran.outcome) == Answer::Done {
+        ran.record
     } else {
-        start.record
+        ran.record.fresh(case.tasks, case.jobs).record
     }
 }
 
 // Some questions about a run's record, one time in ten about one beyond the last tick.
-pub(crate) fn try_windows(
-    rt: &impl Print,
-    t: &mut Tally,
-    case: Case,
-    tasks: &[u32],
-    jobs: &[u32],
-) -> io::Result<()> {
+pub(crate) fn try_windows(desk: &mut Desk<impl Print>, case: Case) -> io::Result<()> {
     let mut line = no_line();
-    let ran = lent_run(
-        mode_of(case.se),
-        tie_of(case.way),
-        tasks,
-        jobs,
+    let entries = lent(&mut line, case.room);
+    let ran = zsrm::run(
+        case.mode,
+        case.tie,
+        case.tasks,
+        case.jobs,
         case.horizon,
-        &mut line,
-        case.room,
+        entries,
     );
-    let mut rec = record_of(ran, tasks, jobs);
+    let mut rec = record_of(ran, case);
     if draw(case.trial, 1690, 10) == 0 {
         rec.tick = 16385;
     }
-    let all = fates(rec, case, tasks, jobs);
+    let fates = array::from_fn(|j| fate_of(rec, case, (j % 64) as u32));
     for i in 0..24 {
-        let q = a_question(case.trial, tasks, i);
-        try_question(rt, t, rec, case, tasks, jobs, all, q)?;
+        try_question(desk, rec, case, &fates, a_question(case, i))?;
     }
     Ok(())
 }

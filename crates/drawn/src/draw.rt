@@ -2,13 +2,15 @@
 // what one part of a trial draws shifts nothing in another.
 ghost use Rattle.std.specs.Prelude.{◌<◌};
 
+use zsrm::Tie;
+
 // A sum that carries makes the shifts more than linear, so that near places give unlike numbers.
 fn stir(x: u64) -> u64 {
-    let a = std::num::wrapping_add_u64(x, 11400714819323198485);
+    let a = x.wrapping_add(11400714819323198485);
     let b = a ^ (a >> 30);
-    let c = std::num::wrapping_add_u64(b, b << 13);
+    let c = b.wrapping_add(b << 13);
     let d = c ^ (c >> 27);
-    let e = std::num::wrapping_add_u64(d, d << 17);
+    let e = d.wrapping_add(d << 17);
     e ^ (e >> 31)
 }
 
@@ -20,6 +22,13 @@ pub fn draw(trial: u32, place: u32, below: u32) -> u32
         return 0;
     }
     let x = stir(stir((trial as u64) * 4294967296 + (place as u64)));
-    let r = ((x % 65536) as u32) % below;
-    if r < 65536 { r } else { 0 }
+    ((x % 65536) as u32) % below
+}
+
+// One of the two ways to choose among equals.
+pub fn draw_tie(trial: u32, place: u32) -> Tie {
+    match draw(trial, place, 2) {
+        0 => Tie::Lowest,
+        _ => Tie::Stay,
+    }
 }

@@ -1,49 +1,57 @@
-// Which refusal goes first. Every rule that is broken has a key, its rank in document 01's order before its number and place, and the
-// least key decides: no check waits for another.
-use crate::answers::{DONE, REFUSED};
+// Which refusal goes first. Every rule that is broken is a fault, and the least decides, in document 01's order: no check waits for
+// another.
+use crate::answers::Answer;
 use crate::list::{
     ARRIVAL, CRITICALITY, DEADLINE, EXECUTION, NOMINAL, OFFSET, OVERLOAD, OWNER, PERIOD, PRIORITY,
-    job, least, task, wide,
+    job, task,
 };
 
-// Nothing is broken.
-pub const FINE: u32 = 655360000;
+// A rule that is broken: 2, a table of no length that is allowed; 3 or 4 of a task; 5, a list of jobs of none that is; 6, 7 or 8 of a job;
+// 9 or one after it. The order of the variants, and of their fields, is the order in which they go.
+#[derive(Clone, Copy, PartialEq, Eq, PartialOrd, Ord)]
+pub enum Fault {
+    Table,
+    Task { place: u32, number: u32 },
+    List,
+    Job { place: u32, number: u32 },
+    Later { number: u32 },
+}
 
-// The ranks of 2, of the tasks, two to a task, of 5, of the jobs, three to a job, and of 9 and those after it, each above the ranks before it.
-const TASKS: u32 = 2;
-
-const FIRST_TASK: u32 = 100;
-
-const JOBS: u32 = 1000;
-
-const FIRST_JOB: u32 = 2000;
-
-const LATER: u32 = 3000;
-
-// The key of a rule, where it is broken.
-fn when(broken: bool, rank: u32, number: u32, place: u32) -> u32 {
-    if broken {
-        (rank % 9000) * 65536 + number % 256 + (place % 256) * 256
-    } else {
-        FINE
+impl From<Fault> for Answer {
+    fn from(fault: Fault) -> Answer {
+        let (number, place) = match fault {
+            Fault::Table => (2, 0),
+            Fault::List => (5, 0),
+            Fault::Task { place, number } | Fault::Job { place, number } => (number, place),
+            Fault::Later { number } => (number, 0),
+        };
+        Answer::Refused { number, place }
     }
 }
 
-// The key of one of the rules from 9 on.
-pub fn late(broken: bool, number: u32) -> u32 {
-    when(broken, LATER + number % 32, number, 0)
-}
-
-// The answer that goes with a key.
-pub fn refusal(key: u32) -> u64 {
-    if key == FINE {
-        DONE
-    } else {
-        REFUSED + ((key % 65536) as u64)
+// What is answered: the refusal of a fault, or done where there is none.
+pub fn refusal(fault: Option<Fault>) -> Answer {
+    match fault {
+        Some(fault) => Answer::from(fault),
+        None => Answer::Done,
     }
 }
 
-fn task_key(tasks: &[u32], k: u32) -> u32 {
+fn when(broken: bool, fault: Fault) -> Option<Fault> {
+    if broken { Some(fault) } else { None }
+}
+
+// One of the rules from 9 on, where it is broken.
+pub fn rule(broken: bool, number: u32) -> Option<Fault> {
+    when(broken, Fault::Later { number })
+}
+
+// Of some faults, or none, the one that goes first.
+pub fn first(faults: &[Option<Fault>]) -> Option<Fault> {
+    faults.iter().copied().flatten().min()
+}
+
+fn task_fault(tasks: &[u32], k: u32) -> Option<Fault> {
     let t = task(tasks, k, PERIOD);
     let d = task(tasks, k, DEADLINE);
     let c = task(tasks, k, NOMINAL);
@@ -53,87 +61,88 @@ fn task_key(tasks: &[u32], k: u32) -> u32 {
     let times = (t <= 16384) & (d <= 16384) & (c <= 16384) & (co <= 16384) & (z <= 16384);
     let scales = (task(tasks, k, CRITICALITY) <= 255) & (task(tasks, k, PRIORITY) <= 63);
     let ordered = (z <= d) & (d <= t) & (c <= co);
-    let rank = FIRST_TASK + 2 * (k % 100);
-    least(
-        when(!(above & times & scales), rank, 3, k),
-        when(!ordered, rank + 1, 4, k),
-    )
+    let range = Fault::Task {
+        place: k,
+        number: 3,
+    };
+    let order = Fault::Task {
+        place: k,
+        number: 4,
+    };
+    first(&[
+        when(!(above & times & scales), range),
+        when(!ordered, order),
+    ])
 }
 
-pub fn tasks_key(tasks: &[u32]) -> u32 {
+pub fn tasks_fault(tasks: &[u32]) -> Option<Fault> {
     let n = tasks.len();
-    let mut key = when((n % 7 != 0) | (n == 0) | (16 < n / 7), TASKS, 2, 0);
-    for k in 0..16 {
-        if (k as usize) < n / 7 {
-            key = least(key, task_key(tasks, k));
-        }
+    let mut fault = when((n % 7 != 0) | (n == 0) | (16 < n / 7), Fault::Table);
+    for k in 0..(n / 7).min(16) as u32 {
+        fault = first(&[fault, task_fault(tasks, k)]);
     }
-    key
+    fault
 }
 
-// The least key of the jobs so far, the arrival of the last one, and for each task one more than its latest arrival, or 0. After an
-// arrival that is out of range its number no longer matters: no later key is less.
+// The first fault of the jobs so far, the arrival of the last one, and for each task its latest arrival. After an arrival that is out of
+// range it no longer matters: no later fault goes before.
 #[derive(Clone, Copy)]
 struct Seen {
-    key: u32,
+    fault: Option<Fault>,
     arrival: u32,
-    latest: [u32; 16],
+    latest: [Option<u32>; 16],
 }
 
-fn job_key(seen: Seen, tasks: &[u32], jobs: &[u32], j: usize) -> u32 {
+fn job_fault(seen: Seen, tasks: &[u32], jobs: &[u32], j: usize) -> Option<Fault> {
     let k = job(jobs, j, OWNER);
     let a = job(jobs, j, ARRIVAL);
     let place = (j % 100) as u32;
-    let rank = FIRST_JOB + 3 * place;
+    let fault = |number: u32| Fault::Job { place, number };
     if (16 <= k) | (tasks.len() / 7 <= (k as usize)) {
-        return when(true, rank, 6, place);
+        return Some(fault(6));
     }
-    let i = (k % 16) as usize;
-    let last = seen.latest[i];
-    let soon = (0 < last) & (wide(a) + 1 < wide(last) + wide(task(tasks, k, PERIOD)));
-    let beyond = (16384 < a) | (task(tasks, k, OVERLOAD) < job(jobs, j, EXECUTION));
-    least(
-        when(beyond, rank, 6, place),
-        least(
-            when(a < seen.arrival, rank + 1, 7, place),
-            when(soon, rank + 2, 8, place),
-        ),
-    )
-}
-
-pub fn jobs_key(tasks: &[u32], jobs: &[u32]) -> u32 {
-    let n = jobs.len();
-    let key = when((n % 3 != 0) | (64 < n / 3), JOBS, 5, 0);
-    let mut seen = Seen {
-        key,
-        arrival: 0,
-        latest: [0; 16],
+    let soon = match seen.latest[(k % 16) as usize] {
+        Some(last) => u64::from(a) < u64::from(last) + u64::from(task(tasks, k, PERIOD)),
+        None => false,
     };
-    for j in 0..64 {
-        if j < n / 3 {
-            let i = (job(jobs, j, OWNER) % 16) as usize;
-            seen.key = least(seen.key, job_key(seen, tasks, jobs, j));
-            seen.arrival = job(jobs, j, ARRIVAL);
-            seen.latest[i] = job(jobs, j, ARRIVAL) % 65536 + 1;
-        }
-    }
-    seen.key
+    let beyond = (16384 < a) | (task(tasks, k, OVERLOAD) < job(jobs, j, EXECUTION));
+    first(&[
+        when(beyond, fault(6)),
+        when(a < seen.arrival, fault(7)),
+        when(soon, fault(8)),
+    ])
 }
 
-pub fn lists_key(tasks: &[u32], jobs: &[u32]) -> u32 {
-    least(tasks_key(tasks), jobs_key(tasks, jobs))
+pub fn jobs_fault(tasks: &[u32], jobs: &[u32]) -> Option<Fault> {
+    let n = jobs.len();
+    let mut seen = Seen {
+        fault: when((n % 3 != 0) | (64 < n / 3), Fault::List),
+        arrival: 0,
+        latest: [None; 16],
+    };
+    for j in 0..(n / 3).min(64) {
+        let i = (job(jobs, j, OWNER) % 16) as usize;
+        seen.fault = first(&[seen.fault, job_fault(seen, tasks, jobs, j)]);
+        seen.arrival = job(jobs, j, ARRIVAL);
+        seen.latest[i] = Some(seen.arrival);
+    }
+    seen.fault
+}
+
+pub fn lists_fault(tasks: &[u32], jobs: &[u32]) -> Option<Fault> {
+    first(&[tasks_fault(tasks), jobs_fault(tasks, jobs)])
 }
 
 // How many ticks a run or a claim has: none where it is refused.
-pub fn ticks_of(key: u32, horizon: u32) -> u32 {
-    if key == FINE { horizon } else { 0 }
+pub fn ticks_of(fault: Option<Fault>, horizon: u32) -> u32 {
+    if fault.is_none() { horizon } else { 0 }
 }
 
 // What a run and a claim are refused for.
-pub fn schedule_key(tasks: &[u32], jobs: &[u32], horizon: u32, room: usize) -> u32 {
-    let ends = least(
-        late(16384 < horizon, 9),
-        late(room != (horizon as usize), 10),
-    );
-    least(lists_key(tasks, jobs), ends)
+pub fn schedule_fault(tasks: &[u32], jobs: &[u32], horizon: u32, room: usize) -> Option<Fault> {
+    first(&[
+        lists_fault(tasks, jobs),
+        rule(16384 < horizon, 9),
+        rule(room != (horizon as usize), 10),
+    ])
 }

@@ -1,25 +1,85 @@
 // The lists of a trial and how they are read. Every read is total: past a list's end stands 0, and what finds no room is left out.
-ghost use Rattle.std.specs.Prelude.{◌<◌, ◌≤◌};
+ghost use Rattle.std.specs.Prelude.{◌≤◌};
 
-// Room for 17 tasks and for 66 jobs, which are more than are allowed.
+use zsrm::{Mode, Tie};
+
+// Room for 17 tasks and for 66 jobs, which are more than are allowed. No Vec and no ArrayVec of the kit: neither is `Copy`, and a list is
+// copied wherever it is damaged.
 #[derive(Clone, Copy)]
 pub struct List {
-    pub at: [u32; 224],
-    pub len: usize,
+    numbers: [u32; 224],
+    len: usize,
+    ghost fits: { len ≤ 224 },
 }
 
 // A schedule, with room for the longest horizon.
 pub type Line = [u16; 16384];
 
-// What a trial is about besides its lists: its number, which is the seed of all that is drawn for it, the mode, the way to choose among
-// equals, the horizon, and how many entries are lent.
+// What a trial is about: its number, which is the seed of all that is drawn for it, the mode, the way to choose among equals, the horizon,
+// how many entries are lent, and the two lists.
 #[derive(Clone, Copy)]
-pub struct Case {
+pub struct Case<'a> {
     pub trial: u32,
-    pub se: bool,
-    pub way: u32,
+    pub mode: Mode,
+    pub tie: Tie,
     pub horizon: u32,
     pub room: usize,
+    pub tasks: &'a [u32],
+    pub jobs: &'a [u32],
+}
+
+impl<'a> Case<'a> {
+    // The case with another table, and with other jobs.
+    pub fn with_tasks<'b>(self, tasks: &'b [u32]) -> Case<'b>
+    where
+        'a: 'b,
+    {
+        Case {
+            trial: self.trial,
+            mode: self.mode,
+            tie: self.tie,
+            horizon: self.horizon,
+            room: self.room,
+            tasks,
+            jobs: self.jobs,
+        }
+    }
+
+    pub fn with_jobs<'b>(self, jobs: &'b [u32]) -> Case<'b>
+    where
+        'a: 'b,
+    {
+        Case {
+            trial: self.trial,
+            mode: self.mode,
+            tie: self.tie,
+            horizon: self.horizon,
+            room: self.room,
+            tasks: self.tasks,
+            jobs,
+        }
+    }
+
+    pub fn task_count(&self) -> usize {
+        self.tasks.len() / 7
+    }
+
+    pub fn job_count(&self) -> usize {
+        self.jobs.len() / 3
+    }
+
+    // A field of a task, of a job, and of a job's task.
+    pub fn task(&self, k: u32, column: usize) -> u32 {
+        task(self.tasks, k, column)
+    }
+
+    pub fn job(&self, j: usize, column: usize) -> u32 {
+        job(self.jobs, j, column)
+    }
+
+    pub fn task_of(&self, j: usize, column: usize) -> u32 {
+        task(self.tasks, self.job(j, OWNER), column)
+    }
 }
 
 // What stands in a schedule before a call.
@@ -49,64 +109,70 @@ pub const ARRIVAL: usize = 1;
 pub const EXECUTION: usize = 2;
 
 impl List {
-    pub fn push(self, x: u32) -> List {
-        let n = self.len;
-        let mut next = self;
-        if n < 224 {
-            next.at[n] = x;
-            next.len = n + 1;
+    pub fn new() -> List {
+        List {
+            numbers: [0; 224],
+            len: 0,
         }
-        next
     }
 
+    pub fn len(&self) -> usize
+        ensures { result ≤ 224 }
+    {
+        self.len
+    }
+
+    pub fn as_slice(&self) -> &[u32] {
+        &self.numbers[..self.len]
+    }
+
+    pub fn push(&mut self, x: u32) {
+        let n = self.len;
+        if n < 224 {
+            self.numbers[n] = x;
+            self.len = n + 1;
+        }
+    }
+
+    pub fn extend(&mut self, numbers: &[u32]) {
+        for x in numbers {
+            self.push(*x);
+        }
+    }
+
+    // The list with another number at a place, also past its end.
     pub fn with(self, i: usize, x: u32) -> List {
         let mut next = self;
         if i < 224 {
-            next.at[i] = x;
+            next.numbers[i] = x;
         }
         next
     }
 
-    pub fn get(self, i: usize) -> u32 {
-        if i < 224 { self.at[i] } else { 0 }
+    // The list cut to so many numbers, or longer by those that stand past its end.
+    pub fn with_len(self, n: usize) -> List {
+        let mut next = self;
+        next.len = n.min(224);
+        next
+    }
+
+    // The number at a place, also past the list's end.
+    pub fn get(&self, i: usize) -> u32 {
+        if i < 224 { self.numbers[i] } else { 0 }
     }
 }
 
 // A list with the same numbers, as far as there is room.
-pub fn list_of(numbers: &[u32]) -> List {
-    let n = numbers.len();
-    let mut list = List {
-        at: [0; 224],
-        len: 0,
-    };
-    for i in 0..n {
-        list = list.push(at(numbers, i));
+impl From<&[u32]> for List {
+    fn from(numbers: &[u32]) -> List {
+        let mut list = List::new();
+        list.extend(numbers);
+        list
     }
-    list
 }
 
 pub fn no_line() -> Line {
     [KEPT; 16384]
-}
-
-pub fn least(a: u32, b: u32) -> u32
-    ensures { result ≤ a }
-{
-    if a < b { a } else { b }
-}
-
-// What is left of a when b is taken away.
-pub fn less(a: u32, b: u32) -> u32
-    ensures { result ≤ a }
-{
-    if b < a { a - b } else { 0 }
-}
-
-// A number in 64 bits, where sums of a few fit.
-pub fn wide(x: u32) -> u64
-    ensures { result < 4294967296 }
-{
-    x as u64
 }
 
 // A number as a record keeps it, in 16 bits; what stands above them is dropped.
@@ -124,44 +190,28 @@ pub fn entry_at(line: &[u16], i: usize) -> u16 {
 
 // A field of a job, and of a task.
 pub fn job(jobs: &[u32], j: usize, column: usize) -> u32 {
-    if j < 100 {
-        if column < 3 {
-            return at(jobs, 3 * j + column);
-        }
+    if (j < 100) && (column < 3) {
+        at(jobs, 3 * j + column)
+    } else {
+        0
     }
-    0
 }
 
 pub fn task(tasks: &[u32], k: u32, column: usize) -> u32 {
-    if k < 100 {
-        if column < 7 {
-            return at(tasks, 7 * (k as usize) + column);
-        }
-    }
-    0
-}
-
-// A field of a job's task.
-pub fn of(tasks: &[u32], jobs: &[u32], j: usize, column: usize) -> u32 {
-    task(tasks, job(jobs, j, OWNER), column)
-}
-
-// The first n numbers, or all where there are fewer.
-pub fn front(list: &[u32], n: usize) -> &[u32] {
-    if n <= list.len() { &list[0..n] } else { list }
-}
-
-pub fn front_of_line(line: &[u16], n: usize) -> &[u16] {
-    if n <= line.len() { &line[0..n] } else { line }
-}
-
-// So many entries from a place on, or all where there are fewer.
-pub fn part_of_line(line: &[u16], from: usize, n: usize) -> &[u16] {
-    let at = from % 65536;
-    let to = at + n % 65536;
-    if to <= line.len() {
-        &line[at..to]
+    if (k < 100) && (column < 7) {
+        at(tasks, 7 * (k as usize) + column)
     } else {
-        line
+        0
     }
+}
+
+// The first n of a list, or all where there are fewer.
+pub fn front<T>(list: &[T], n: usize) -> &[T] {
+    &list[..n.min(list.len())]
+}
+
+// Lends the first n of a list, or all where there are fewer.
+pub fn lent<T>(list: &mut [T], n: usize) -> &mut [T] {
+    let end = n.min(list.len());
+    &mut list[..end]
 }

@@ -1,153 +1,156 @@
 // What a program of trials counts and writes. Every answer is counted under its call, so what is counted nowhere was not tried; what made a
 // difference is written with all that it takes to repeat the call.
-use crate::answers::{AT_LEAST, EXACTLY, NUMBERED, OUTSIDE, REFUSED};
-use crate::list::{Case, at, entry_at};
-use std::io;
+use crate::answers::Answer;
+use crate::list::Case;
+use std::{fmt, io};
+use zsrm::Tie;
 
-// Each call has 64 counts: its answers, in the order in which a report names them, from 32 on the refusals by their numbers, and at 63 how
-// often it was made.
-pub type Tally = [u32; 1856];
-
-pub const INPUTS: usize = 0;
-
-pub const CALLS: usize = 1;
-
-pub const DIFFERENCES: usize = 2;
-
-const MADE: usize = 63;
-
-pub fn nothing() -> Tally {
-    [0; 1856]
+// A call, by its number: they are numbered from 1, as a report lists them.
+pub trait Call {
+    fn number(self) -> usize;
 }
 
-pub fn count(t: &Tally, what: usize) -> u32 {
-    if what < 1856 { t[what] } else { 0 }
+// How often a call was made, how often each answer was due, in the order in which a report names them, with what is counted beside them
+// behind them, and how often each refusal, by its number.
+#[derive(Clone, Copy)]
+struct Counts {
+    made: u32,
+    answers: [u32; 16],
+    refusals: [u32; 32],
 }
 
-pub fn add(t: &mut Tally, what: usize, by: u32) {
-    if what < 1856 {
-        t[what] = std::num::wrapping_add_u32(t[what], by);
+// How many inputs were tried, how many calls were compared and how many differed, and the counts of each call.
+#[derive(Clone, Copy)]
+pub struct Tally {
+    pub inputs: u32,
+    pub calls: u32,
+    pub differences: u32,
+    of: [Counts; 32],
+}
+
+// The place of an answer among the counts of its call: what is told with a number is the second, what is late the fourth and fifth, what is
+// outside the sixth. What is wrong is never due.
+fn place_of(answer: Answer) -> usize {
+    match answer {
+        Answer::Ended | Answer::NoNumber | Answer::Numbered(_) => 1,
+        Answer::Open | Answer::AcceptedEnded | Answer::NoRoom => 2,
+        Answer::Late { exact: false, .. } => 3,
+        Answer::Late { exact: true, .. } => 4,
+        Answer::Outside(_) => 5,
+        _ => 0,
     }
 }
 
-// The place of an answer among the counts of its call: what is told with a number is the second, what is late the fourth and
-// fifth, what is outside the sixth.
-fn class(answer: u64) -> usize {
-    if REFUSED <= answer {
-        return 32 + ((answer - REFUSED) % 32) as usize;
-    }
-    if AT_LEAST <= answer {
-        return if answer < EXACTLY {
-            3
-        } else if answer < OUTSIDE {
-            4
-        } else {
-            5
+impl Tally {
+    pub fn new() -> Tally {
+        let counts = Counts {
+            made: 0,
+            answers: [0; 16],
+            refusals: [0; 32],
         };
-    }
-    if NUMBERED <= answer {
-        1
-    } else {
-        (answer % 16) as usize
-    }
-}
-
-// A call was compared: what it names, a job, a tick, or how many parts or entries, what was expected, and what came.
-pub fn note(
-    rt: &impl Print,
-    t: &mut Tally,
-    call: usize,
-    number: u32,
-    want: u64,
-    got: u64,
-) -> io::Result<()> {
-    add(t, CALLS, 1);
-    add(t, call % 1856 + MADE, 1);
-    add(t, call % 1856 + class(want) % 64, 1);
-    if want != got {
-        add(t, DIFFERENCES, 1);
-        difference(rt, call / 64, number, want, got)?;
-    }
-    Ok(())
-}
-
-// The calls are numbered from 1, as a report lists them.
-fn difference(rt: &impl Print, call: usize, number: u32, want: u64, got: u64) -> io::Result<()> {
-    say(rt, b"difference: call ", call as u64)?;
-    say(rt, b", number ", number as u64)?;
-    say(rt, b": expected ", want)?;
-    say(rt, b", got ", got)?;
-    text(rt, b"\n")
-}
-
-pub fn text(rt: &impl Print, words: &[u8]) -> io::Result<()> {
-    rt.write_all(words)
-}
-
-// Words and a number.
-pub fn say(rt: &impl Print, words: &[u8], n: u64) -> io::Result<()> {
-    text(rt, words)?;
-    rt.print(n)
-}
-
-fn refused(rt: &impl Print, number: usize, times: u32) -> io::Result<()> {
-    if 0 < times {
-        say(rt, b"; refused ", number as u64)?;
-        say(rt, b": ", times as u64)?;
-    }
-    Ok(())
-}
-
-// What the words name, so many counts, and the refusals that came; nothing of a call that was not made.
-pub fn line(rt: &impl Print, t: &Tally, words: &[u8], call: usize, n: usize) -> io::Result<()> {
-    let first = call % 1856;
-    if count(t, first + MADE) == 0 {
-        return Ok(());
-    }
-    text(rt, words)?;
-    for k in 0..MADE {
-        let times = count(t, first + k);
-        if k < n {
-            say(rt, b" ", times as u64)?;
-        }
-        if 32 < k {
-            refused(rt, k - 32, times)?;
+        Tally {
+            inputs: 0,
+            calls: 0,
+            differences: 0,
+            of: [counts; 32],
         }
     }
-    text(rt, b"\n")
-}
 
-// The inputs, calls and differences that were counted.
-pub fn totals(rt: &impl Print, t: &Tally) -> io::Result<()> {
-    say(rt, b": inputs ", count(t, INPUTS) as u64)?;
-    say(rt, b", calls ", count(t, CALLS) as u64)?;
-    say(rt, b", differences ", count(t, DIFFERENCES) as u64)?;
-    text(rt, b"\n")
-}
-
-pub fn numbers(rt: &impl Print, name: &[u8], list: &[u32]) -> io::Result<()> {
-    let n = list.len();
-    text(rt, name)?;
-    for i in 0..n {
-        say(rt, b" ", at(list, i) as u64)?;
+    // One more input.
+    pub fn begin(&mut self) {
+        self.inputs = self.inputs.wrapping_add(1);
     }
-    text(rt, b"\n")
-}
 
-pub fn print_input(rt: &impl Print, case: Case, tasks: &[u32], jobs: &[u32]) -> io::Result<()> {
-    say(rt, b"  in trial ", case.trial as u64)?;
-    say(rt, b", horizon ", case.horizon as u64)?;
-    say(rt, b", entries ", case.room as u64)?;
-    say(rt, b", tie ", case.way as u64)?;
-    numbers(rt, b"\n  tasks", tasks)?;
-    numbers(rt, b"  jobs", jobs)
-}
-
-pub fn print_line(rt: &impl Print, line: &[u16]) -> io::Result<()> {
-    let n = line.len();
-    text(rt, b"  schedule")?;
-    for i in 0..n {
-        say(rt, b" ", entry_at(line, i) as u64)?;
+    // So many more at a place among the counts of a call.
+    pub fn add<C: Call>(&mut self, (call, place): (C, usize), by: u32) {
+        let call = call.number() % 32;
+        let place = place % 16;
+        self.of[call].answers[place] = self.of[call].answers[place].wrapping_add(by);
     }
-    text(rt, b"\n")
+
+    // The inputs, calls and differences of another, added.
+    pub fn add_totals(&mut self, other: &Tally) {
+        self.inputs = self.inputs.wrapping_add(other.inputs);
+        self.calls = self.calls.wrapping_add(other.calls);
+        self.differences = self.differences.wrapping_add(other.differences);
+    }
+
+    fn count(&mut self, call: usize, answer: Answer) {
+        let counts = &mut self.of[call % 32];
+        counts.made = counts.made.wrapping_add(1);
+        if let Answer::Refused { number, .. } = answer {
+            let i = (number % 32) as usize;
+            counts.refusals[i] = counts.refusals[i].wrapping_add(1);
+        } else {
+            let i = place_of(answer) % 16;
+            counts.answers[i] = counts.answers[i].wrapping_add(1);
+        }
+    }
+
+    // A call was compared: what it names, a job, a tick, or how many parts or entries, what was due, and what came.
+    pub fn note(
+        &mut self,
+        rt: &impl Print,
+        call: impl Call,
+        number: u32,
+        due: Answer,
+        came: Answer,
+    ) -> io::Result<()> {
+        let call = call.number();
+        self.calls = self.calls.wrapping_add(1);
+        self.count(call, due);
+        if due != came {
+            self.differences = self.differences.wrapping_add(1);
+            print!(rt; "difference: call {call}, number {number}")?;
+            println!(rt; ": expected {due}, got {came}")?;
+        }
+        Ok(())
+    }
+
+    // What the words name, so many counts, and the refusals that came; nothing of a call that was not made.
+    pub fn line(&self, rt: &impl Print, words: &str, call: impl Call, n: usize) -> io::Result<()> {
+        let counts = self.of[call.number() % 32];
+        if counts.made == 0 {
+            return Ok(());
+        }
+        print!(rt; "{words}")?;
+        for times in counts.answers.iter().take(n) {
+            print!(rt; " {times}")?;
+        }
+        for (number, times) in counts.refusals.iter().enumerate() {
+            if 0 < *times {
+                print!(rt; "; refused {number}: {times}")?;
+            }
+        }
+        println!(rt)
+    }
+
+    // The inputs, calls and differences that were counted.
+    pub fn totals(&self, rt: &impl Print) -> io::Result<()> {
+        let inputs = self.inputs;
+        let calls = self.calls;
+        let differences = self.differences;
+        println!(rt; ": inputs {inputs}, calls {calls}, differences {differences}")
+    }
+}
+
+pub fn numbers<T: fmt::Display>(rt: &impl Print, name: &str, list: &[T]) -> io::Result<()> {
+    print!(rt; "{name}")?;
+    for x in list {
+        print!(rt; " {x}")?;
+    }
+    println!(rt)
+}
+
+pub fn print_input(rt: &impl Print, case: Case) -> io::Result<()> {
+    let tie = match case.tie {
+        Tie::Lowest => 0,
+        Tie::Stay => 1,
+    };
+    let trial = case.trial;
+    let horizon = case.horizon;
+    let room = case.room;
+    println!(rt; "  in trial {trial}, horizon {horizon}, entries {room}, tie {tie}")?;
+    numbers(rt, "  tasks", case.tasks)?;
+    numbers(rt, "  jobs", case.jobs)
 }

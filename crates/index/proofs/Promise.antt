@@ -17,13 +17,12 @@ use lib.Dec.{eqb, ltb}
 use lib.ListN.{get_or, length, length-set, set, take}
 use borrow.Author.Tests.{eq-eqb, eqb-true, lt-ltb, ltb-true}
 use Rattle.bits.proofs.Laws.Bools.{clash, or_cases, or_left, or_right}
-use Rattle.tables.specs.declared.answers.Outcome.{Outcome}
-use Rattle.tables.specs.declared.answers.Outcome.TheVariants as outcomes
+use Rattle.std.specs.Prelude.{Result, Ok, Err}
+use Rattle.tables.specs.declared.answers.Refusal.{Refusal}
+use Rattle.tables.specs.Outcomes.{Outcome, Done, Refused}
 use Rattle.tables.specs.Said.{done, outcome_said, refused}
 use Rattle.tables.specs.Tables.{idle, job_count, task_count}
 use Rattle.tables.proofs.Laws.Said.{said_done, said_refused}
-use Rattle.index.specs.declared.answers.Count.{Count}
-use Rattle.index.specs.declared.answers.Count.TheVariants.{Refused, Ticks}
 use Rattle.index.specs.Answers.{Beside, Replacement, after, between_answer, build_answer, build_index, check_asked, moved, replace_answer, replace_index, replace_one, replace_schedule}
 use Rattle.index.specs.Counts.{Plan, all_jobs_or_idle, column, job_or_idle, entries_between, ticks}
 use Rattle.index.specs.Refusals.{built_from, check_given, count_at, since}
@@ -46,17 +45,17 @@ Accepted g schedule = outcome_said (check_given g (length schedule)) ≡ done
 abbrev pub Long : Plan → List ℕ → Type 0
 Long g index = length index ≡ row_count g.horizon * row_width g.lists.tasks
 
-counts : (o : Count) (n : ℕ) → o ≡ Ticks n → count_said o ≡ counted n
+counts : (o : Result ℕ Refusal) (n : ℕ) → o ≡ Ok n → count_said o ≡ counted n
 unfolding count_said
 counts o n e = ap count_said e
 
-counts_refused : (o : Count) (number place : ℕ) → o ≡ Refused number place → count_said o ≡ refused number place
+counts_refused : (o : Result ℕ Refusal) (number place : ℕ) → o ≡ Refused number place → count_said o ≡ refused number place
 unfolding count_said
 counts_refused o number place e = ap count_said e
 
-is_counted : (o : Count) (n : ℕ) → count_said o ≡ counted n → o ≡ Ticks n
+is_counted : (o : Result ℕ Refusal) (n : ℕ) → count_said o ≡ counted n → o ≡ Ok n
 unfolding count_said
-is_counted o n e = count_said_law o (Ticks n) e
+is_counted o n e = count_said_law o (Ok n) e
 
 -- ## What an entry is
 
@@ -122,14 +121,14 @@ module _ (g : Plan) (schedule index : List ℕ) where
       pub long : Long g index
       pub named : task ≤ task_count g.lists.tasks
 
-    asked : Asked → check_asked g (length schedule) (length index) task a b ≡ outcomes.Done
+    asked : Asked → check_asked g (length schedule) (length index) task a b ≡ Done
     asked w = answers.asked_done g (length schedule) (length index) task a b ((said_done _).0 w.accepted) w.in_order w.within w.long w.named
 
     -- A count is answered exactly where what is asked for is in range, and what is formed of the index and the entries read is (`Formed`); it
     -- is each end's count, the first taken from the second, each the number of the last row at or before it plus the entries since.
     pub between_done : (n : ℕ) → count_said (between_answer g schedule index task a b) ≡ counted n
         ↔ Asked × Formed g schedule index task a b × (n ≡ count_at g schedule index task b - count_at g schedule index task a)
-    between_done n = (there, λ w. counts _ n (answers.between_done g schedule index task a b (asked w.0) w.1 ∙ ap Ticks (sym w.2)))
+    between_done n = (there, λ w. counts _ n (answers.between_done g schedule index task a b (asked w.0) w.1 ∙ ap (λ (n : ℕ). Ok n) (sym w.2)))
       where
         there : count_said (between_answer g schedule index task a b) ≡ counted n → Asked × Formed g schedule index task a b × (n ≡ count_at g schedule index task b - count_at g schedule index task a)
         there says =
@@ -223,7 +222,7 @@ module _ (g : Plan) (schedule index : List ℕ) where
         (answers.replace_keeps_schedule g schedule index tick entry number place e, answers.replace_keeps_index g schedule index tick entry number place e)
 
     module _ (says : outcome_said (replace_answer g schedule index tick entry) ≡ done) where
-      ok : replace_answer g schedule index tick entry ≡ outcomes.Done
+      ok : replace_answer g schedule index tick entry ≡ Done
       ok = (said_done _).0 says
 
       -- Done, the schedule has the entry, and is else as it was.
@@ -287,8 +286,8 @@ module _ (g : Plan) (schedule index : List ℕ) where
     replace_length = go (replace_answer g schedule index tick entry) refl
       where
         go : (o : Outcome) → replace_answer g schedule index tick entry ≡ o → length (replace_schedule g schedule index tick entry) ≡ length schedule
-        go outcomes.Done e = ap length (answers.replace_schedules g schedule index tick entry e) ∙ length-set schedule tick entry
-        go (outcomes.Refused x y) e = ap length (answers.replace_keeps_schedule g schedule index tick entry x y e)
+        go Done e = ap length (answers.replace_schedules g schedule index tick entry e) ∙ length-set schedule tick entry
+        go (Err w) e = ap length (answers.replace_keeps_schedule g schedule index tick entry w.number w.place e)
 
 -- ## What it costs
 
@@ -308,9 +307,9 @@ module _ (g : Plan) where
   step_indexes s r is = go (replace_answer g s.schedule s.index r.tick r.entry) refl
     where
       go : (o : Outcome) → replace_answer g s.schedule s.index r.tick r.entry ≡ o → Indexes g (replace_one g s r).schedule (replace_one g s r).index
-      go outcomes.Done e = replace_indexes g s.schedule s.index r.tick r.entry ((said_done _).1 e) is
-      go (outcomes.Refused x y) e =
-          let same = replace_keeps g s.schedule s.index r.tick r.entry x y ((said_refused _ x y).1 e) in
+      go Done e = replace_indexes g s.schedule s.index r.tick r.entry ((said_done _).1 e) is
+      go (Err w) e =
+          let same = replace_keeps g s.schedule s.index r.tick r.entry w.number w.place ((said_refused _ w.number w.place).1 e) in
           rw (same.0, same.1) is
 
   -- The index is still the schedule's, which is as long as it was.
@@ -331,10 +330,10 @@ module _ (g : Plan) where
   after_jobs_or_idle s (r ∷ rs) all = after_jobs_or_idle (replace_one g s r) rs (go (replace_answer g s.schedule s.index r.tick r.entry) refl)
     where
       go : (o : Outcome) → replace_answer g s.schedule s.index r.tick r.entry ≡ o → all_jobs_or_idle g.lists.jobs (replace_schedule g s.schedule s.index r.tick r.entry) ≡ true
-      go outcomes.Done e =
+      go Done e =
           let w = (replace_done g s.schedule s.index r.tick r.entry).0 ((said_done _).1 e) in
           rw (replace_writes g s.schedule s.index r.tick r.entry ((said_done _).1 e)) (jobs_or_idle_set g.lists.jobs s.schedule r.tick r.entry all w.3.new_known)
-      go (outcomes.Refused x y) e = rw (replace_keeps g s.schedule s.index r.tick r.entry x y ((said_refused _ x y).1 e)).0 all
+      go (Err w) e = rw (replace_keeps g s.schedule s.index r.tick r.entry w.number w.place ((said_refused _ w.number w.place).1 e)).0 all
 
   accepted_after : (s : Beside) (rs : List Replacement) → Accepted g s.schedule → Accepted g (after g s rs).schedule
   accepted_after s rs ok = ap (λ (n : ℕ). outcome_said (check_given g n)) (after_length s rs) ∙ ok

@@ -1,10 +1,9 @@
 -- What the three calls answer, refusals first, in the order of their numbers, and what the caller's lists hold afterwards: where a call is
 -- refused, what they held.
-use Rattle.std.specs.Prelude.{ℕ, ◌+◌, ◌-◌, ◌*◌, cond, not, ◌&&◌, List, [], ◌∷◌, eqb, ltb, get_or, length, set}
-use Rattle.tables.specs.declared.answers.Outcome.{Outcome}
+use Rattle.std.specs.Prelude.{ℕ, ◌+◌, ◌-◌, ◌*◌, cond, not, ◌&&◌, List, [], ◌∷◌, eqb, ltb, get_or, length, set, Result, Ok}
+use Rattle.tables.specs.declared.answers.Refusal.{Refusal}
+use Rattle.tables.specs.Outcomes.{Outcome, Refused}
 use Rattle.tables.specs.Refusals.{before, refuse, unless}
-use Rattle.index.specs.declared.answers.Count.{Count}
-use Rattle.index.specs.declared.answers.Count.TheVariants.{Refused, Ticks}
 use Rattle.index.specs.Counts.{Plan, column}
 use Rattle.index.specs.Refusals.{check_built, check_ends, check_entries, check_given, check_length, check_range, check_task, check_tick, count_at, strays}
 use Rattle.index.specs.Rows.{index_of, index_number, row_count, row_by_row, row_width}
@@ -34,8 +33,8 @@ module _ (g : Plan) (schedule index : List ℕ) (task a b : ℕ) where
   check_between = before (check_asked g (length schedule) (length index) task a b) (check_ends g schedule index task a b)
 
   -- each end's count, the first taken from the second
-  unfoldable pub between_answer : Count
-  between_answer = unless check_between Refused (Ticks (count_at g schedule index task b - count_at g schedule index task a))
+  unfoldable pub between_answer : Result ℕ Refusal
+  between_answer = unless check_between Refused (Ok (count_at g schedule index task b - count_at g schedule index task a))
 
 -- ## replace
 

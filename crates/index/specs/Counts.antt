@@ -1,5 +1,6 @@
 -- Request One, the schedule in stretches, indexed by task: what an entry is given to, and how many entries are given to it.
-use Rattle.std.specs.Prelude.{ℕ, ◌+◌, ◌-◌, Bool, cond, true, ◌&&◌, ◌||◌, List, [], ◌∷◌, eqb, ltb, drop, take}
+use Rattle.std.specs.Prelude.{ℕ, ◌+◌, ◌-◌, Bool, cond, ◌&&◌, ◌||◌, List, [], ◌∷◌, eqb, ltb, drop, take}
+use Rattle.std.specs.List.{list_all}
 use Rattle.tables.specs.Tables.{Lists, idle, job_count, lists, task_count, task_of}
 
 -- what all calls are given beside a schedule: a task table, a job list and a horizon
@@ -17,8 +18,7 @@ job_or_idle jobs entry = ltb entry (job_count jobs) || eqb entry idle
 
 -- Every one of these entries is.
 unfoldable pub all_jobs_or_idle : List ℕ → List ℕ → Bool
-all_jobs_or_idle jobs [] = true
-all_jobs_or_idle jobs (entry ∷ entries) = job_or_idle jobs entry && all_jobs_or_idle jobs entries
+all_jobs_or_idle jobs entries = list_all (job_or_idle jobs) entries
 
 -- Tasks are counted by their numbers and, last, idle: the task count means idle.
 unfoldable pub column : Lists → ℕ → ℕ

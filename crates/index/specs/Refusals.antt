@@ -1,7 +1,7 @@
 -- Request One's refusals: 15 and 16, place 0, both after those of the lists, the horizon and the schedule.
 use Rattle.std.specs.Prelude.{ℕ, ◌+◌, ◌*◌, ◌/◌, Bool, not, ◌&&◌, ◌||◌, List, eqb, ltb, take}
 use Rattle.bits.specs.Below.{some}
-use Rattle.tables.specs.declared.answers.Outcome.{Outcome}
+use Rattle.tables.specs.Outcomes.{Outcome}
 use Rattle.tables.specs.Refusals.{check_schedule, refuse}
 use Rattle.tables.specs.Tables.{task_count}
 use Rattle.index.specs.Counts.{Plan, all_jobs_or_idle, job_or_idle, entries_between, ticks}

@@ -9,18 +9,17 @@ ghost use Rattle.index.specs.Counts.{plan};
 use changes::{check_replace, move_rows};
 use counts::column;
 use ends::between_ends;
+use given::Plan;
 use refusals::{check_asked, check_build};
 use rows::write_rows;
-use tables::Outcome;
+use tables::{Outcome, Refusal};
 
-mod answers;
 mod changes;
 mod counts;
 mod ends;
+mod given;
 mod refusals;
 mod rows;
-
-pub use answers::Count;
 
 // The index of the schedule, written whole: of each multiple of 64 from 0 to the horizon a row, the ticks before it given to each task and,
 // last, idle. Refusals: 2 to 10, then 16 for an index of another length, or an entry before the last multiple that is neither job nor idle.
@@ -35,14 +34,14 @@ pub fn build(
     ensures answers { result ≡ build_answer (plan tasks.now jobs.now horizon) schedule.now index.old }
     ensures writes { index.new ≡ build_index (plan tasks.now jobs.now horizon) schedule.now index.old }
 {
-    let found = check_build(tasks, jobs, horizon, schedule, index);
-    match found {
-        Outcome::Done => {
-            write_rows(tasks, jobs, horizon, schedule, index);
-            Outcome::Done
-        }
-        Outcome::Refused(number, place) => Outcome::Refused(number, place),
-    }
+    let given = Plan {
+        tasks,
+        jobs,
+        horizon,
+    };
+    check_build(given, schedule, index)?;
+    write_rows(given, schedule, index);
+    Ok(())
 }
 
 // How many ticks from a up to b the index and the entries since its rows give to the task, or to idle where it is the task count. Refusals:
@@ -57,23 +56,16 @@ pub fn between(
     task: u32,
     a: u32,
     b: u32,
-) -> Count
+) -> Result<u32, Refusal>
     ensures { result ≡ between_answer (plan tasks.now jobs.now horizon) schedule.now index.now task a b }
 {
-    let asked = check_asked(
+    let given = Plan {
         tasks,
         jobs,
         horizon,
-        schedule.len(),
-        index.len(),
-        task,
-        a,
-        b,
-    );
-    match asked {
-        Outcome::Done => { between_ends(tasks, jobs, horizon, schedule, index, task, a, b) }
-        Outcome::Refused(number, place) => Count::Refused(number, place),
-    }
+    };
+    check_asked(given, schedule.len(), index.len(), task, a, b)?;
+    between_ends(given, schedule, index, task, a, b)
 }
 
 // One entry of the schedule replaced, and the index with it: in each row past the tick the old entry's column loses 1 and the new one's
@@ -93,16 +85,16 @@ pub fn replace(
     ensures schedules { schedule.new ≡ replace_schedule (plan tasks.now jobs.now horizon) schedule.old index.old tick entry }
     ensures indexes { index.new ≡ replace_index (plan tasks.now jobs.now horizon) schedule.old index.old tick entry }
 {
-    let found = check_replace(tasks, jobs, horizon, schedule, index, tick, entry);
-    match found {
-        Outcome::Done => {
-            let at = tick as usize;
-            let old = column(tasks, jobs, schedule[at]);
-            let new = column(tasks, jobs, entry);
-            move_rows(tasks, horizon, index, tick, old, new);
-            schedule[at] = entry;
-            Outcome::Done
-        }
-        Outcome::Refused(number, place) => Outcome::Refused(number, place),
-    }
+    let given = Plan {
+        tasks,
+        jobs,
+        horizon,
+    };
+    check_replace(given, schedule, index, tick, entry)?;
+    let at = tick as usize;
+    let old = column(given, schedule[at]);
+    let new = column(given, entry);
+    move_rows(given, index, tick, old, new);
+    schedule[at] = entry;
+    Ok(())
 }

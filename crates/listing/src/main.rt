@@ -11,6 +11,7 @@ fn read_full<R: Read>(from: &mut R, buf: &mut [u8]) -> io::Result<usize>
     ensures { IfOk result (λ n. n ≤ length buf.new) }
 {
     let mut done = 0;
+    // no `for`: each read says how much it brought
     while done < buf.len() {
         let n = from.read(&mut buf[done..])?;
         if n == 0 {

@@ -9,9 +9,9 @@ use native.Mathlib.Omega.{arith}
 use lib.Dec.{eqb, ltb}
 use lib.ListN.{get_or, length, replicate}
 use Rattle.bits.specs.Below.{every, greatest, least, list_from, some}
+use Rattle.std.specs.Prelude.{Ok}
 use Rattle.tables.specs.declared.fields.Job.{Job}
-use Rattle.tables.specs.declared.answers.Outcome.{Outcome}
-use Rattle.tables.specs.declared.answers.Outcome.TheVariants.{Done}
+use Rattle.tables.specs.Outcomes.{Outcome, Done}
 use Rattle.tables.specs.Refusals.{ascending, before, check10, check13, check2, check3, check4, check5, check6, check7}
 use Rattle.tables.specs.Refusals.{check8, check9, check_jobs, check_lists, check_tasks, outside, preceding, refuse, unless, check_schedule}
 use Rattle.tables.specs.Said.{done, outcome_said}
@@ -79,7 +79,7 @@ job k a c = record { task = k; arrival = a; execution = c }
 -- ticks, then done, suspended, waited and standing, then the verdict
 abbrev pub gets : List ℕ → ℕ → ℕ → ℕ → Standing → Verdict → Share
 gets ticks done suspended waited standing verdict =
-    record { ticks = ticks; place = record { done = done; suspended = suspended; waited = waited; standing = standing }; verdict = verdict }
+    record { ticks = ticks; place = record { done = done; suspended = suspended; waited = waited; standing = standing }; verdict = Ok verdict }
 
 abbrev pub ran_to : List Job → List Share → Side
 ran_to members gives = record { outcome = Done; members = members; gives = gives }

@@ -1,10 +1,11 @@
 -- Request Fourteen, other people's jobs: what is asked of a set of tasks, which jobs of a list are its members', and what our run gives
 -- a job. A set of tasks is a test of task numbers. A task that passes is a member; every other task of the table is outside.
-use Rattle.std.specs.Prelude.{ℕ, zero, suc, Bool, not, ◌||◌, cond, List, [], ◌∷◌, ◌++◌, map, eqb, leb, ltb, get_or}
+use Rattle.std.specs.Prelude.{ℕ, zero, suc, Bool, not, ◌||◌, cond, List, [], ◌∷◌, ◌++◌, map, eqb, leb, ltb, get_or, Result}
 use Rattle.bits.specs.Below.{every}
 use Rattle.tables.specs.declared.fields.Job.{Job}
 use Rattle.tables.specs.Fields.{job_at}
 use Rattle.tables.specs.Tables.{idle, task_count, criticality, priority, job_count, task_of}
+use Rattle.tables.specs.declared.answers.Refusal.{Refusal}
 use Rattle.zsrm.specs.declared.answers.Verdict.{Verdict}
 use Rattle.zsrm.specs.declared.record.Place.{Place}
 use Rattle.zsrm.specs.declared.tie.Tie.{Tie}
@@ -52,7 +53,7 @@ ticks_of horizon schedule j = passing horizon (λ t. eqb (get_or schedule t idle
 pub record Share : Type 0 where
   pub ticks : List ℕ
   pub place : Place
-  pub verdict : Verdict
+  pub verdict : Result Verdict Refusal
 
 module _ (g : Given) (tie : Tie) (horizon : ℕ) (lent : List ℕ) where
   unfoldable pub share : ℕ → Share

@@ -8,14 +8,16 @@ use native.Mathlib.Omega.{arith}
 use lib.ListN.{drop, get_or-replicate, length, length-replicate, replicate}
 use lib.Seq.{ext_get_or, get_or-drop}
 use Rattle.bits.specs.Below.{every, greatest, least, list_from, some}
-use Rattle.tables.specs.declared.answers.Outcome.TheVariants.{Done}
+use Rattle.std.specs.Prelude.{Result, Ok}
+use Rattle.tables.specs.declared.answers.Refusal.{Refusal}
+use Rattle.tables.specs.Outcomes.{Done, Refused}
 use Rattle.tables.specs.Refusals.{ascending, before, check10, check13, check2, check3, check4, check5, check6, check7}
 use Rattle.tables.specs.Refusals.{check8, check9, check_jobs, check_lists, check_tasks, outside, preceding, refuse, unless, check_schedule}
 use Rattle.tables.specs.Said.{outcome_said}
 use Rattle.tables.specs.Tables.{arrival, criticality, deadline, deadline_instant, execution, job_count, job_criticality, job_nominal, job_priority}
 use Rattle.tables.specs.Tables.{nominal, offset, overload, period, priority, task_count, task_of, zero_slack_instant}
 use Rattle.zsrm.specs.declared.answers.Verdict.{Verdict}
-use Rattle.zsrm.specs.declared.answers.Verdict.TheVariants.{Ended, Met, Open, Refused}
+use Rattle.zsrm.specs.declared.answers.Verdict.TheVariants.{Ended, Met, Open}
 use Rattle.zsrm.specs.declared.mode.Mode.{Mode}
 use Rattle.zsrm.specs.declared.mode.Mode.TheVariants.{S, SE}
 use Rattle.zsrm.specs.Answers.{check_verdict, verdict_answer}
@@ -36,13 +38,13 @@ use Rattle.planter.proofs.Promise.Admitted.{past_thirteen}
 abbrev day : List ℕ
 day = (0 ∷ 0 ∷ 8 ∷ []) ++ (1 ∷ 0 ∷ 4 ∷ []) ++ (2 ∷ 0 ∷ 6 ∷ [])
 
-abbrev change : Verdict → Verdict → Change
+abbrev change : Result Verdict Refusal → Result Verdict Refusal → Change
 change before after = record { before = before; after = after }
 
 -- down-force, depth, log, and the offered job
 abbrev changes : Mode → List Change
-changes S = change Met Met ∷ change Met Met ∷ change Met Open ∷ change (Refused 13 0) Met ∷ []
-changes SE = change Met Met ∷ change Met Met ∷ change Met Ended ∷ change (Refused 13 0) Ended ∷ []
+changes S = change (Ok Met) (Ok Met) ∷ change (Ok Met) (Ok Met) ∷ change (Ok Met) (Ok Open) ∷ change (Refused 13 0) (Ok Met) ∷ []
+changes SE = change (Ok Met) (Ok Met) ∷ change (Ok Met) (Ok Met) ∷ change (Ok Met) (Ok Ended) ∷ change (Refused 13 0) (Ok Ended) ∷ []
 
 -- of a number that is no job's
 abbrev none : Change

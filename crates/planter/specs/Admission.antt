@@ -1,8 +1,9 @@
 -- Document 02, Seven, a day's admission: offered one more job, whether the list with that job appended is accepted, and how every verdict at
 -- the horizon changes.
-use Rattle.std.specs.Prelude.{ℕ, List, [], ◌∷◌, ◌++◌}
+use Rattle.std.specs.Prelude.{ℕ, List, [], ◌∷◌, ◌++◌, Result}
+use Rattle.tables.specs.declared.answers.Refusal.{Refusal}
+use Rattle.tables.specs.Outcomes.{Refused}
 use Rattle.zsrm.specs.declared.answers.Verdict.{Verdict}
-use Rattle.zsrm.specs.declared.answers.Verdict.TheVariants as verdicts
 use Rattle.zsrm.specs.declared.mode.Mode.{Mode}
 use Rattle.zsrm.specs.declared.tie.Tie.TheVariants.{Stay}
 use Rattle.zsrm.specs.Answers.{verdict_answer}
@@ -15,7 +16,7 @@ unfoldable pub appended : List ℕ → ℕ → ℕ → ℕ → List ℕ
 appended jobs task arrival execution = jobs ++ (task ∷ arrival ∷ execution ∷ [])
 
 -- The library's verdict on job j at the horizon, where our run of the job list ends.
-unfoldable pub verdict_in : Mode → List ℕ → ℕ → ℕ → Verdict
+unfoldable pub verdict_in : Mode → List ℕ → ℕ → ℕ → Result Verdict Refusal
 verdict_in mode jobs horizon j = verdict_answer (planter mode jobs) (run_record (planter mode jobs) Stay horizon) j
 
 -- Of each job number, in the lists or not, what `verdict` answers without and with the offered job: 13 where the list has no such job.
@@ -24,4 +25,4 @@ change_at mode jobs longer horizon j = record { before = verdict_in mode jobs ho
 
 -- Every number of a refused answer is 0.
 abbrev pub blank_change : Change
-blank_change = record { before = verdicts.Refused 0 0; after = verdicts.Refused 0 0 }
+blank_change = record { before = Refused 0 0; after = Refused 0 0 }

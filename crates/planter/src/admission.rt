@@ -2,7 +2,7 @@
 // changes. No schedule is kept: either list's run goes on from its fresh record 64 ticks at a time.
 ghost use Rattle.std.specs.Prelude.{◌≡◌, ◌+◌, ◌<◌, ◌≤◌, length, take};
 ghost use Rattle.bits.specs.Below.{list_from};
-ghost use Rattle.tables.specs.declared.answers.Outcome.{Outcome};
+ghost use Rattle.tables.specs.Outcomes.{Done};
 ghost use Rattle.tables.specs.Tables.{lists};
 ghost use Rattle.tables.specs.Refusals.{check_schedule};
 ghost use Rattle.zsrm.specs.declared.tie.Tie.{Tie};
@@ -15,19 +15,24 @@ ghost use Rattle.planter.specs.Code.{OnTheWay, change_of};
 use crate::answers::{Admission, Change};
 use crate::calls::{fresh, go_on, verdicts};
 use crate::tasks::TABLE;
-use tables::{before, check_lists, check9, job_count};
-use zsrm::{Mode, Outcome, Record, Verdict, Verdicts};
+use tables::{check_lists, check9, job_count};
+use zsrm::{Mode, Outcome, Record, Refusal, Verdicts};
 
 // A refused admission counts no job, and every change is blank.
-fn refused_admission(number: u32, place: u32) -> Admission
-    ensures { result ≡ refused_admission number place }
+#[tactic(auto, unfolding(crate::specs::Answers::refused_admission))]
+fn refused_admission(refusal: Refusal) -> Admission
+    ensures { result ≡ refused_admission refusal.number refusal.place }
 {
+    let none = Err(Refusal {
+        number: 0,
+        place: 0,
+    });
     let blank = Change {
-        before: Verdict::Refused(0, 0),
-        after: Verdict::Refused(0, 0),
+        before: none,
+        after: none,
     };
     Admission {
-        outcome: Outcome::Refused(number, place),
+        outcome: Err(refusal),
         count: 0,
         changes: [blank; 64],
     }
@@ -37,7 +42,8 @@ fn refused_admission(number: u32, place: u32) -> Admission
 fn check_run(jobs: &[u32], horizon: u32) -> Outcome
     ensures { result ≡ check_schedule (lists table jobs.now) horizon horizon }
 {
-    before(check_lists(&TABLE, jobs), check9(horizon))
+    check_lists(&TABLE, jobs)?;
+    check9(horizon)
 }
 
 // How many of the ticks that are left go into one piece.
@@ -45,12 +51,12 @@ fn piece(left: u32) -> u32
     requires { 0 < left }
     ensures { (0 < result) × (result ≤ left) × (result ≤ 64) }
 {
-    if left < 64 { left } else { 64 }
+    left.min(64)
 }
 
 // Our run's record one piece nearer to the horizon.
 fn run_on(rec: Record, mode: Mode, jobs: &[u32], horizon: u32) -> Record
-    requires horizon_value { check_schedule (lists table jobs.now) horizon horizon ≡ Outcome.Done }
+    requires horizon_value { check_schedule (lists table jobs.now) horizon horizon ≡ Done }
     requires on_the_way { OnTheWay (planter mode jobs.now) horizon rec × (rec.tick < horizon) }
     ensures { OnTheWay (planter mode jobs.now) horizon result × (rec.tick < result.tick) }
 {
@@ -63,11 +69,11 @@ fn run_on(rec: Record, mode: Mode, jobs: &[u32], horizon: u32) -> Record
 
 // The record of our run of an accepted list at the horizon.
 fn run_to(mode: Mode, jobs: &[u32], horizon: u32) -> Record
-    requires { check_schedule (lists table jobs.now) horizon horizon ≡ Outcome.Done }
+    requires { check_schedule (lists table jobs.now) horizon horizon ≡ Done }
     ensures { result ≡ run_record (planter mode jobs.now) Tie.Stay horizon }
 {
-    let started = fresh(jobs);
-    let mut rec = started.record;
+    let mut rec = fresh(jobs).record;
+    // no `for`, as the record tells how far the run is; and by way of `next`: a record that goes right into `rec` gets no proof yet
     while rec.tick < horizon {
         let next = run_on(rec, mode, jobs, horizon);
         rec = next;
@@ -77,23 +83,22 @@ fn run_to(mode: Mode, jobs: &[u32], horizon: u32) -> Record
 
 // The change of every job number, from all verdicts on either list.
 fn changed(count: u32, old: Verdicts, new: Verdicts) -> Admission
-    ensures { result ≡ record { outcome = Outcome.Done; count = count; changes = list_from 0 64 (change_of old new) } }
+    ensures { result ≡ record { outcome = Done; count = count; changes = list_from 0 64 (change_of old new) } }
 {
-    let mut out = refused_admission(0, 0);
-    let mut j: usize = 0;
-    while j < 64 {
-        let without = old.of[j];
-        let with = new.of[j];
-        let before = without.verdict;
-        let after = with.verdict;
-        out.changes[j] = Change { before, after };
-        j += 1;
+    let mut out = refused_admission(Refusal {
+        number: 0,
+        place: 0,
+    });
+    for j in 0..64 {
+        out.changes[j] = Change {
+            before: old.of[j],
+            after: new.of[j],
+        };
     }
-    let changes = out.changes;
     Admission {
-        outcome: Outcome::Done,
+        outcome: Ok(()),
         count,
-        changes,
+        changes: out.changes,
     }
 }
 
@@ -104,22 +109,16 @@ fn append_job(jobs: &[u32], task: u32, arrival: u32, execution: u32) -> [u32; 19
     ensures holds { take (length jobs.now + 3) result ≡ appended jobs.now task arrival execution }
 {
     let mut out = [0u32; 192];
-    let mut i: usize = 0;
-    while i < jobs.len() {
-        out[i] = jobs[i];
-        i += 1;
-    }
-    let at: usize = jobs.len();
-    out[at] = task;
-    out[at + 1] = arrival;
-    out[at + 2] = execution;
+    let at = jobs.len();
+    out[..at].copy_from_slice(jobs);
+    out[at..at + 3].copy_from_slice(&[task, arrival, execution]);
     out
 }
 
 // The admission where both lists are accepted: all verdicts at the horizon, asked once per list.
 fn compared(mode: Mode, jobs: &[u32], longer: &[u32], horizon: u32) -> Admission
-    requires horizon_value { check_schedule (lists table jobs.now) horizon horizon ≡ Outcome.Done }
-    requires horizon_value_2 { check_schedule (lists table longer.now) horizon horizon ≡ Outcome.Done }
+    requires horizon_value { check_schedule (lists table jobs.now) horizon horizon ≡ Done }
+    requires horizon_value_2 { check_schedule (lists table longer.now) horizon horizon ≡ Done }
     ensures { result ≡ admission mode jobs.now longer.now horizon }
 {
     let old = verdicts(run_to(mode, jobs, horizon), mode, jobs);
@@ -129,13 +128,12 @@ fn compared(mode: Mode, jobs: &[u32], longer: &[u32], horizon: u32) -> Admission
 
 // The admission from a list to a longer one, which is accepted only where the list itself is.
 fn weighed(mode: Mode, jobs: &[u32], longer: &[u32], horizon: u32) -> Admission
-    requires { check_schedule (lists table longer.now) horizon horizon ≡ Outcome.Done → check_schedule (lists table jobs.now) horizon horizon ≡ Outcome.Done }
+    requires { check_schedule (lists table longer.now) horizon horizon ≡ Done → check_schedule (lists table jobs.now) horizon horizon ≡ Done }
     ensures { result ≡ admission mode jobs.now longer.now horizon }
 {
-    let checked = check_run(longer, horizon);
-    match checked {
-        Outcome::Done => compared(mode, jobs, longer, horizon),
-        Outcome::Refused(number, place) => refused_admission(number, place),
+    match check_run(longer, horizon) {
+        Ok(()) => compared(mode, jobs, longer, horizon),
+        Err(refusal) => refused_admission(refusal),
     }
 }
 
@@ -152,7 +150,10 @@ pub fn admit(
     ensures { result ≡ admit_answer mode jobs.now horizon task arrival execution }
 {
     if 189 < jobs.len() {
-        return refused_admission(5, 0);
+        return refused_admission(Refusal {
+            number: 5,
+            place: 0,
+        });
     }
     let longer = append_job(jobs, task, arrival, execution);
     let n = jobs.len() + 3;

@@ -8,7 +8,7 @@ ghost use Rattle.zsrm.specs.Verdict.{Shows};
 ghost use Rattle.planter.specs.Table.{planter, table};
 
 use crate::tasks::TABLE;
-use zsrm::{Claim, Mode, Ran, Record, Replayed, Stepped, Tie, Verdict, Verdicts, Witness};
+use zsrm::{Claim, Mode, Ran, Record, Refusal, Replayed, Stepped, Tie, Verdict, Verdicts, Witness};
 
 // The fresh record of the jobs; refusals 5 to 8. The library's method is called on some record, whatever that holds.
 pub fn fresh(jobs: &[u32]) -> Ran
@@ -43,7 +43,7 @@ pub fn run(mode: Mode, jobs: &[u32], horizon: u32, schedule: &mut [u16]) -> Ran
 }
 
 // Whether a claimed schedule is legal, or the least tick at which it is not; refusals 5 to 10.
-pub fn claim(mode: Mode, jobs: &[u32], horizon: u32, schedule: &[u16]) -> Claim
+pub fn claim(mode: Mode, jobs: &[u32], horizon: u32, schedule: &[u16]) -> Result<Claim, Refusal>
     ensures { result ≡ claim_answer (planter mode jobs.now) horizon schedule.now }
 {
     zsrm::claim(mode, &TABLE, jobs, horizon, schedule)
@@ -58,7 +58,7 @@ pub fn replay(mode: Mode, jobs: &[u32], horizon: u32, schedule: &[u16]) -> Repla
 }
 
 // The verdict on a job from a record, such as a run or a replay returns; refusals 5 to 8, 11, 13.
-pub fn verdict(rec: Record, mode: Mode, jobs: &[u32], job: u32) -> Verdict
+pub fn verdict(rec: Record, mode: Mode, jobs: &[u32], job: u32) -> Result<Verdict, Refusal>
     ensures { result ≡ verdict_answer (planter mode jobs.now) rec job }
 {
     zsrm::verdict(rec, mode, &TABLE, jobs, job)
@@ -72,7 +72,13 @@ pub fn verdicts(rec: Record, mode: Mode, jobs: &[u32]) -> Verdicts
 }
 
 // Whether a claimed schedule is a witness that the job missed though every strictly more critical job keeps to its C; refusals 5 to 10, 13.
-pub fn witness(mode: Mode, jobs: &[u32], horizon: u32, schedule: &[u16], job: u32) -> Witness
+pub fn witness(
+    mode: Mode,
+    jobs: &[u32],
+    horizon: u32,
+    schedule: &[u16],
+    job: u32,
+) -> Result<Witness, Refusal>
     ensures { result ≡ witness_answer (planter mode jobs.now) horizon schedule.now job }
 {
     zsrm::witness(mode, &TABLE, jobs, horizon, schedule, job)

@@ -12,6 +12,6 @@ pub use answers::{Admission, Change};
 pub use calls::{claim, fresh, go_on, replay, response, run, step, verdict, verdicts, witness};
 pub use tasks::{DEPTH, DOWN_FORCE, LOG};
 pub use zsrm::{
-    Claim, IDLE, Judged, Mode, Outcome, Place, Ran, Record, Replayed, Standing, Stepped, Verdict,
+    Claim, IDLE, Mode, Outcome, Place, Ran, Record, Refusal, Replayed, Standing, Stepped, Verdict,
     Verdicts, Witness,
 };

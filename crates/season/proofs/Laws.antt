@@ -1,4 +1,5 @@
 -- The laws, one file per notion: proved once, and cited from then on.
+pub mod Ranges
 pub mod Rows
 pub mod Reports
 pub mod Own

@@ -23,9 +23,10 @@ use native.Mathlib.Omega.{arith}
 use lib.Dec.{ltb}
 use lib.ListN.{length}
 use borrow.Author.Tests.{le-ltb, lt-ltb, ltb-false, ltb-true}
+use Rattle.std.specs.Prelude.{Some, None}
 use Rattle.bits.proofs.Laws.Below.{get_or_list}
 use Rattle.bits.proofs.Laws.Bools.{apart}
-use Rattle.tables.specs.declared.answers.Outcome.TheVariants.{Done, Refused}
+use Rattle.tables.specs.Outcomes.{Done, Refused}
 use Rattle.tables.specs.Refusals.{before, check_tasks}
 use Rattle.tables.specs.Said.{done, outcome_said, refused}
 use Rattle.tables.specs.Tables.{Lists, arrival, job_count, task_count}
@@ -62,7 +63,6 @@ use Rattle.season.proofs.Laws.Reports.{Joins, joined_past, joined_row_law, joins
 use Rattle.season.proofs.Laws.Rows.{fits_held, held_fits}
 use Rattle.season.proofs.Laws.Season.{each_accepted, fitting_few, fitting_order, over_order, over_row, runs_added, season_fitting, season_made}
 use Rattle.season.proofs.Readings.{finished_since, total_counted, total_greatest, total_least, total_within}
-use Rattle.season.specs.declared.answers.Extremes.TheVariants as extremes
 
 -- ## The words
 
@@ -346,7 +346,7 @@ pub extremes_none : (r : Row) → extremes_said (extremes_of r) ≡ 0 ∷ [] ↔
 unfolding extremes_of extremes_said
 extremes_none r = (λ e. by_finished (ltb 0 r.finished) refl e, λ e. rw (le-ltb 0 r.finished (omega arith)))
   where
-    by_finished : (b : Bool) → ltb 0 r.finished ≡ b → extremes_said (cond b (extremes.Of r.least r.greatest) extremes.None) ≡ 0 ∷ [] → r.finished ≡ 0
+    by_finished : (b : Bool) → ltb 0 r.finished ≡ b → extremes_said (cond b (Some (record { least = r.least; greatest = r.greatest })) None) ≡ 0 ∷ [] → r.finished ≡ 0
     by_finished true h e = apart (cc)
     by_finished false h e = omega (arith, ltb-false 0 r.finished h)
 

@@ -13,7 +13,9 @@ use borrow.Author.Tests.{eq-eqb, eqb-true, ltb-true}
 use Rattle.bits.specs.Below.{count, sum_below}
 use Rattle.bits.proofs.Laws.Below.{count_same, last_or_below}
 use Rattle.bits.proofs.Laws.Bools.{by_cond, apart}
-use Rattle.tables.specs.declared.answers.Outcome.TheVariants.{Done}
+use Rattle.std.specs.Prelude.{Result}
+use Rattle.tables.specs.declared.answers.Refusal.{Refusal}
+use Rattle.tables.specs.Outcomes.{Done}
 use Rattle.tables.specs.Refusals.{check_lists}
 use Rattle.tables.specs.Tables.{Lists, arrival, job_count, lists, task_of}
 use Rattle.tables.proofs.Laws.Accepted.{lists_few}
@@ -25,7 +27,7 @@ use Rattle.zsrm.specs.declared.record.Standing.TheVariants.{NotArrived, Unfinish
 use Rattle.zsrm.specs.Answers.{verdict_answer}
 use Rattle.zsrm.specs.Record.{consistent, standing_at}
 use Rattle.zsrm.specs.Said.{standing_said}
-use Rattle.zsrm.specs.Verdict.{is_ended, is_late, is_met, is_open, verdict}
+use Rattle.zsrm.specs.Verdict.{is_ended, is_late, is_met, is_open, verdict, verdict_is}
 use Rattle.zsrm.proofs.Laws.Verdicts.{verdict_answered}
 use Rattle.zsrm.proofs.Laws.Consistent.{sound_at_law}
 use Rattle.zsrm.proofs.Laws.Said.{standing_said_law}
@@ -48,14 +50,12 @@ kept x a (Finished f) = (refl, refl, refl, refl)
 kept x a (Ended e) = (refl, refl, refl, refl)
 
 one : (v : Verdict) → ((judged_row v).met ≡ cond (is_met v) 1 0) × ((judged_row v).late ≡ cond (is_late v) 1 0) × ((judged_row v).ended ≡ cond (is_ended v) 1 0) × ((judged_row v).«open» ≡ cond (is_open v) 1 0)
-one (verdicts.Refused number place) = (refl, refl, refl, refl)
 one verdicts.Met = (refl, refl, refl, refl)
 one (verdicts.Late by is_exact) = (refl, refl, refl, refl)
 one verdicts.Ended = (refl, refl, refl, refl)
 one verdicts.Open = (refl, refl, refl, refl)
 
 nothing : (v : Verdict) → ((judged_row v).finished ≡ 0) × ((judged_row v).sum ≡ 0)
-nothing (verdicts.Refused number place) = (refl, refl)
 nothing verdicts.Met = (refl, refl)
 nothing (verdicts.Late by is_exact) = (refl, refl)
 nothing verdicts.Ended = (refl, refl)
@@ -217,10 +217,10 @@ module _ (tasks : List ℕ) (run : Run) (ok : Accepted tasks run) where
   -- the library answers the verdicts by which it is counted
   as_answered : (k : ℕ) (so : Verdict → Bool)
       → count (job_count run.jobs) (λ j. is_of_task k run j && so (verdict (lists tasks run.jobs) run.returned j))
-      ≡ count (job_count run.jobs) (λ j. is_of_task k run j && so (verdict_answer (run_given tasks run) run.returned j))
+      ≡ count (job_count run.jobs) (λ j. is_of_task k run j && verdict_is so (verdict_answer (run_given tasks run) run.returned j))
   as_answered k so =
       count_same _ _ (job_count run.jobs)
-      (λ j b. ap (λ (v : Verdict). is_of_task k run j && so v) (sym (verdict_answered (run_given tasks run) its_lists run.returned its_record j b)))
+      (λ j b. ap (λ (v : Result Verdict Refusal). is_of_task k run j && verdict_is so v) (sym (verdict_answered (run_given tasks run) its_lists run.returned its_record j b)))
 
   -- no job finishes before its arrival
   pub finished_since : (j f : ℕ) → j < job_count run.jobs → standing_at run.returned j ≡ Finished f → arrival run.jobs j ≤ f

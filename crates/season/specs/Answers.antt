@@ -2,7 +2,7 @@
 use Rattle.std.specs.Prelude.{ℕ, List}
 use Rattle.tables.specs.Refusals.{before, check_tasks, unless}
 use Rattle.tables.specs.Tables.{task_count}
-use Rattle.tables.specs.declared.answers.Outcome.{Outcome}
+use Rattle.tables.specs.Outcomes.{Outcome}
 use Rattle.zsrm.specs.Answers.{check_verdicts}
 use Rattle.zsrm.specs.Given.{Given}
 use Rattle.zsrm.specs.declared.record.Record.{Record}

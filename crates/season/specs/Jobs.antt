@@ -10,7 +10,7 @@ use Rattle.zsrm.specs.declared.record.Standing.TheVariants.{NotArrived, Unfinish
 use Rattle.zsrm.specs.Answers.{verdict_answer}
 use Rattle.zsrm.specs.Record.{standing_at}
 use Rattle.zsrm.specs.Said.{finished_at, standing_said}
-use Rattle.zsrm.specs.Verdict.{is_ended, is_late, is_met, is_open}
+use Rattle.zsrm.specs.Verdict.{is_ended, is_late, is_met, is_open, verdict_is}
 use Rattle.season.specs.declared.answers.Row.{Row}
 use Rattle.season.specs.Season.{Run, run_given}
 
@@ -65,7 +65,7 @@ module _ (k : ℕ) where
 module _ (tasks : List ℕ) (k : ℕ) where
   -- how many jobs of task k, in all runs, the library judges so
   abbrev pub judged_over : (Verdict → Bool) → List Run → ℕ
-  judged_over so = jobs_over k (λ run j. so (verdict_answer (run_given tasks run) run.returned j))
+  judged_over so = jobs_over k (λ run j. verdict_is so (verdict_answer (run_given tasks run) run.returned j))
 
   -- The counts and the sum of a row are those of all jobs of task k in all runs.
   pub record Counted (runs : List Run) (row : Row) : Type 0 where

@@ -20,7 +20,6 @@ count_row met late ended opened =
 
 -- One job, met, late, ended or open; the verdict on a job of the list is no refusal.
 abbrev pub judged_row : Verdict → Row
-judged_row (verdicts.Refused number place) = empty_row
 judged_row verdicts.Met = count_row 1 0 0 0
 judged_row (verdicts.Late by is_exact) = count_row 0 1 0 0
 judged_row verdicts.Ended = count_row 0 0 1 0

@@ -2,7 +2,7 @@
 -- looked at, and in the answer of a call that is done they are 0.
 use Rattle.std.specs.Prelude.{ℕ, min, Bool, cond, not, ◌||◌, List, eqb, ltb, get_or, replicate}
 use Rattle.bits.specs.Below.{every, list_from}
-use Rattle.tables.specs.declared.answers.Outcome.{Outcome}
+use Rattle.tables.specs.Outcomes.{Outcome}
 use Rattle.tables.specs.Refusals.{refuse}
 use Rattle.season.specs.declared.answers.Report.{Report}
 use Rattle.season.specs.declared.answers.Row.{Row}

@@ -1,9 +1,8 @@
 -- Document 02, Ten: a report shown, as bytes. One line per task, its words one space apart, ended by a newline:
 -- `task K MET LATE ENDED OPEN LEAST GREATEST QUOTIENT REMAINDER COUNT`. The bytes: space is 32, newline 10, `-` 45.
-use Rattle.std.specs.Prelude.{ℕ, zero, suc, List, [], ◌∷◌, ◌++◌}
+use Rattle.std.specs.Prelude.{ℕ, zero, suc, List, [], ◌∷◌, ◌++◌, Option, Some, None}
 use Rattle.text.specs.Decimal.{decimal, spaced}
 use Rattle.season.specs.declared.answers.Mean.{Mean}
-use Rattle.season.specs.declared.answers.Mean.TheVariants.{None, Of}
 use Rattle.season.specs.declared.answers.Report.{Report}
 use Rattle.season.specs.declared.answers.Row.{Row}
 use Rattle.season.specs.Mean.{mean_of}
@@ -21,10 +20,10 @@ unfoldable pub counts : Row → List (List ℕ)
 counts r = decimal r.met ∷ decimal r.late ∷ decimal r.ended ∷ decimal r.«open» ∷ []
 
 -- the least and greatest response, and the mean as quotient, remainder and count; `-` each where no job finished
-abbrev pub responses : ℕ → ℕ → Mean → List (List ℕ)
+abbrev pub responses : ℕ → ℕ → Option Mean → List (List ℕ)
 responses least greatest None = dash ∷ dash ∷ dash ∷ dash ∷ dash ∷ []
-responses least greatest (Of quotient remainder count) =
-    decimal least ∷ decimal greatest ∷ decimal quotient ∷ decimal remainder ∷ decimal count ∷ []
+responses least greatest (Some mean) =
+    decimal least ∷ decimal greatest ∷ decimal mean.quotient ∷ decimal mean.remainder ∷ decimal mean.count ∷ []
 
 -- The line of task k.
 unfoldable pub row_line : ℕ → Row → List ℕ

@@ -10,13 +10,14 @@ use crate::means::divided;
 use text::{put_byte, put_numbers, put_text};
 
 // Least and greatest, and the mean, of a row with a finished job; `-` each of another.
-fn put_responses(out: &mut [u8], at: usize, least: u32, greatest: u32, mean: Mean) -> usize
+#[tactic(auto, unfolding(text::specs::Decimal::spaced, text::specs::Decimal::numbers))]
+fn put_responses(out: &mut [u8], at: usize, least: u32, greatest: u32, mean: Option<Mean>) -> usize
     ensures { Put out.old at (spaced (responses least greatest mean)) out.new result }
 {
     match mean {
-        Mean::None => put_text(out, at, b" - - - - -"),
-        Mean::Of(quotient, remainder, count) => {
-            let five = [least, greatest, quotient, remainder, count];
+        None => put_text(out, at, b" - - - - -"),
+        Some(mean) => {
+            let five = [least, greatest, mean.quotient, mean.remainder, mean.count];
             put_numbers(out, at, &five)
         }
     }
@@ -39,13 +40,9 @@ fn put_rows(out: &mut [u8], report: Report) -> usize
     ensures puts { Put out.old 0 (showing report) out.new result }
     ensures few { result ≤ 1558 }
 {
-    let n = task_rows(report.tasks);
     let mut at: usize = 0;
-    let mut k: usize = 0;
-    while k < n {
-        let row = report.rows[k];
-        at = put_row(out, at, k as u32, row);
-        k += 1;
+    for k in 0..task_rows(report.tasks) {
+        at = put_row(out, at, k as u32, report.rows[k]);
     }
     at
 }

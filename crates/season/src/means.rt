@@ -8,31 +8,37 @@ ghost use Rattle.season.specs.Mean.{mean_of};
 use crate::answers::{Extremes, Mean, Row};
 
 // The sum divided by the count; no sum has more than 10 digits, so the three numbers have at most 21 together.
-pub(crate) fn divided(row: Row) -> Mean
+pub(crate) fn divided(row: Row) -> Option<Mean>
     ensures is { result ≡ mean_of row }
     ensures short { Short result }
 {
-    if 0 < row.finished {
-        Mean::Of(row.sum / row.finished, row.sum % row.finished, row.finished)
-    } else {
-        Mean::None
+    if row.finished == 0 {
+        return None;
     }
+    Some(Mean {
+        quotient: row.sum / row.finished,
+        remainder: row.sum % row.finished,
+        count: row.finished,
+    })
 }
 
 // The mean of the row's responses; there is none where no job finished.
-pub fn mean(row: Row) -> Mean
+pub fn mean(row: Row) -> Option<Mean>
     ensures { result ≡ mean_of row }
 {
     divided(row)
 }
 
 // The least and the greatest of the row's responses; there are none where no job finished.
-pub fn extremes(row: Row) -> Extremes
+pub fn extremes(row: Row) -> Option<Extremes>
     ensures { result ≡ extremes_of row }
 {
     if 0 < row.finished {
-        Extremes::Of(row.least, row.greatest)
+        Some(Extremes {
+            least: row.least,
+            greatest: row.greatest,
+        })
     } else {
-        Extremes::None
+        None
     }
 }

@@ -8,23 +8,19 @@ use crate::answers::{Report, Reported};
 use crate::joins::{check18, empty_report, join_reports, refused_report};
 use crate::own::own_report;
 use tables::check_tasks;
-use zsrm::{Mode, Outcome, Record, verdicts};
+use zsrm::{Mode, Record, verdicts};
 
 impl Report {
     // The report of no runs of a table; refusals 2 to 4, the report then being all 0.
     pub fn empty(tasks: &[u32]) -> Reported
         ensures { result ≡ empty_answer tasks.now }
     {
-        let checked = check_tasks(tasks);
-        match checked {
-            Outcome::Done => {
-                let report = empty_report((tasks.len() / 7) as u32);
-                Reported {
-                    outcome: Outcome::Done,
-                    report,
-                }
-            }
-            Outcome::Refused(number, place) => refused_report(empty_report(0), number, place),
+        match check_tasks(tasks) {
+            Ok(()) => Reported {
+                outcome: Ok(()),
+                report: empty_report((tasks.len() / 7) as u32),
+            },
+            Err(refusal) => refused_report(empty_report(0), refusal),
         }
     }
 
@@ -32,16 +28,12 @@ impl Report {
     pub fn join(self, other: Report) -> Reported
         ensures { result ≡ join_answer self other }
     {
-        let checked = check18(self, other);
-        match checked {
-            Outcome::Done => {
-                let report = join_reports(self, other);
-                Reported {
-                    outcome: Outcome::Done,
-                    report,
-                }
-            }
-            Outcome::Refused(eighteen, place) => refused_report(self, eighteen, place),
+        match check18(self, other) {
+            Ok(()) => Reported {
+                outcome: Ok(()),
+                report: join_reports(self, other),
+            },
+            Err(eighteen) => refused_report(self, eighteen),
         }
     }
 
@@ -50,13 +42,9 @@ impl Report {
         ensures { result ≡ add_answer self (given mode tasks.now jobs.now) run }
     {
         let all = verdicts(run, mode, tasks, jobs);
-        let checked = all.outcome;
-        match checked {
-            Outcome::Done => {
-                let own = own_report(run, all, tasks, jobs);
-                self.join(own)
-            }
-            Outcome::Refused(number, place) => refused_report(self, number, place),
+        match all.outcome {
+            Ok(()) => self.join(own_report(run, all, tasks, jobs)),
+            Err(refusal) => refused_report(self, refusal),
         }
     }
 }

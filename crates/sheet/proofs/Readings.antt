@@ -12,7 +12,7 @@ use lib.ListN.{get_or, length}
 use borrow.Author.Tests.{eqb-false, eqb-true}
 use Rattle.bits.proofs.Laws.Below.{last_or_below}
 use Rattle.bits.proofs.Laws.Bools.{by_cond}
-use Rattle.tables.specs.declared.answers.Outcome.TheVariants.{Done}
+use Rattle.tables.specs.Outcomes.{Done}
 use Rattle.tables.specs.Refusals.{before, check9, check_lists}
 use Rattle.zsrm.specs.declared.tie.Tie.TheVariants.{Lowest}
 use Rattle.zsrm.specs.Run.{run_entries, run_record}

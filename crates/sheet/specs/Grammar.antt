@@ -1,14 +1,12 @@
 -- Document 01, "The listing": the input text. A first line with mode letter (S or E), horizon, task count and job count; a line of seven
 -- numbers for each task; a line of three for each job. Decimal, one space apart, each line ended by a newline, 1 to 5 digits; anything
 -- else is malformed. The bytes: space is 32, newline 10, S 83, E 69; 256 stands for the end of the text.
-use Rattle.std.specs.Prelude.{ℕ, zero, suc, ◌+◌, ◌*◌, ◌%◌, Bool, ◌&&◌, ◌||◌, cond, List, [], ◌∷◌, length, get_or, leb, eqb}
-use Rattle.text.specs.declared.answers.Number.{Number}
-use Rattle.text.specs.declared.answers.Number.TheVariants.{Value, Malformed}
+use Rattle.std.specs.Prelude.{ℕ, zero, suc, ◌+◌, ◌*◌, ◌%◌, Bool, ◌&&◌, ◌||◌, cond, List, [], ◌∷◌, length, get_or, leb, eqb, Option, Some, None}
+use Rattle.text.specs.Decimal.{Number, Value, Malformed}
 use Rattle.text.specs.Decimal.{decimal_at}
 use Rattle.zsrm.specs.declared.mode.Mode.{Mode}
 use Rattle.zsrm.specs.declared.mode.Mode.TheVariants.{S, SE}
 use Rattle.sheet.specs.declared.input.Head.{Head}
-use Rattle.sheet.specs.declared.input.Head.TheVariants.{Heading, NoHead}
 
 -- A number counts where the byte behind it is the one wanted; the position is then the one after that byte.
 abbrev pub ended_by : List ℕ → ℕ → Number → Number
@@ -48,28 +46,32 @@ is_mode b = eqb b 83 || eqb b 69
 abbrev pub mode_of_letter : ℕ → Mode
 mode_of_letter b = cond (eqb b 83) S SE
 
-abbrev pub with_number : Number → (ℕ → ℕ → Head) → Head
+abbrev pub heading : ℕ → ℕ → ℕ → ℕ → ℕ → Option Head
+heading letter horizon tasks jobs next =
+    Some (record { letter = letter; horizon = horizon; tasks = tasks; jobs = jobs; next = next })
+
+abbrev pub with_number : Number → (ℕ → ℕ → Option Head) → Option Head
 with_number (Value v k) rest = rest v k
-with_number Malformed rest = NoHead
+with_number Malformed rest = None
 
 -- The first line: mode letter, horizon, task count, job count. A task count over 16 or a job count over 64 is malformed.
-unfoldable pub first_line : List ℕ → Head
+unfoldable pub first_line : List ℕ → Option Head
 first_line text =
     cond (is_mode (get_or text 0 256) && eqb (get_or text 1 256) 32)
     (with_number (field_at text 2 32)
     (λ horizon a. with_number (field_at text a 32)
     (λ tasks b. with_number (field_at text b 10)
-    (λ jobs e. cond (leb tasks 16 && leb jobs 64) (Heading (get_or text 0 256) horizon tasks jobs e) NoHead))))
-    NoHead
+    (λ jobs e. cond (leb tasks 16 && leb jobs 64) (heading (get_or text 0 256) horizon tasks jobs e) None))))
+    None
 
 -- an input text: mode, horizon, the task table and the job list
 pub data Parsed : Type 0 where
   parsed : Mode → ℕ → List ℕ → List ℕ → Parsed
   malformed : Parsed
 
-abbrev pub with_head : Head → (ℕ → ℕ → ℕ → ℕ → ℕ → Parsed) → Parsed
-with_head (Heading letter horizon tasks jobs a) rest = rest letter horizon tasks jobs a
-with_head NoHead rest = malformed
+abbrev pub with_head : Option Head → (ℕ → ℕ → ℕ → ℕ → ℕ → Parsed) → Parsed
+with_head (Some head) rest = rest head.letter head.horizon head.tasks head.jobs head.next
+with_head None rest = malformed
 
 abbrev pub with_numbers : Numbers → (List ℕ → ℕ → Parsed) → Parsed
 with_numbers (got vs k) rest = rest vs k

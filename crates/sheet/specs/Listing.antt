@@ -80,7 +80,6 @@ stretches es = stretch_lines (longest es)
 
 -- the words `met`, `late`, `ended`, `open`; the verdict on a job of the list is no refusal
 unfoldable pub verdict_word : Verdict → List ℕ
-verdict_word (verdicts.Refused number place) = []
 verdict_word verdicts.Met = 109 ∷ 101 ∷ 116 ∷ []
 verdict_word (verdicts.Late by is_exact) = 108 ∷ 97 ∷ 116 ∷ 101 ∷ []
 verdict_word verdicts.Ended = 101 ∷ 110 ∷ 100 ∷ 101 ∷ 100 ∷ []
@@ -100,7 +99,6 @@ sign false = 62 ∷ 61 ∷ []
 
 -- by how much a job is late, for late only, as in `=2` and `>=0`
 unfoldable pub lateness : Verdict → List (List ℕ)
-lateness (verdicts.Refused number place) = []
 lateness verdicts.Met = []
 lateness (verdicts.Late by is_exact) = (sign is_exact ++ decimal by) ∷ []
 lateness verdicts.Ended = []

@@ -9,7 +9,7 @@ ghost use Rattle.zsrm.specs.Given.{given};
 
 use input::parse;
 use output::{put_head, put_jobs, put_refused, put_stretches};
-use zsrm::{Mode, Outcome, Record, Tie};
+use zsrm::{Mode, Record, Tie};
 
 mod input;
 mod output;
@@ -46,11 +46,9 @@ fn put_given(
     ensures { Put out.old 0 (given_listing (given mode tasks.now jobs.now) horizon) out.new result }
 {
     let ran = zsrm::run(mode, Tie::Lowest, tasks, jobs, horizon, schedule);
-    let outcome = ran.outcome;
-    let rec = ran.record;
-    match outcome {
-        Outcome::Done => put_run(out, mode, tasks, jobs, horizon, schedule, rec),
-        Outcome::Refused(number, place) => put_refused(out, 0, number, place),
+    match ran.outcome {
+        Ok(()) => put_run(out, mode, tasks, jobs, horizon, schedule, ran.record),
+        Err(refusal) => put_refused(out, 0, refusal.number, refusal.place),
     }
 }
 
@@ -82,10 +80,9 @@ pub fn listing(input: &[u8], out: &mut [u8; 600000]) -> usize
     ensures writes { Wrote out.old 0 (listing input.now) out.new result }
     ensures fits { result ≤ length out.new }
 {
-    let sheet = parse(input);
-    if !sheet.formed {
+    let Some(sheet) = parse(input) else {
         return put_refused(out, 0, 14, 0);
-    }
+    };
     let table = sheet.table;
     let list = sheet.list;
     let n = sheet.tasks * 7;

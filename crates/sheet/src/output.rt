@@ -38,23 +38,21 @@ pub(crate) fn put_stretches(out: &mut [u8], at: usize, schedule: &[u16]) -> usiz
     requires { length schedule.now ≤ 16384 }
     ensures { Put out.old at (stretches schedule.now) out.new result }
 {
-    if schedule.len() == 0 {
+    if schedule.is_empty() {
         return at;
     }
     let mut first: usize = 0;
     let mut current = schedule[0];
     let mut k = at;
-    let mut t: usize = 1;
-    while t < schedule.len() {
+    for t in 1..schedule.len() {
         let e = schedule[t];
         if e != current {
             k = put_stretch(out, k, first as u32, t as u32, current);
             first = t;
             current = e;
         }
-        t += 1;
     }
-    put_stretch(out, k, first as u32, t as u32, current)
+    put_stretch(out, k, first as u32, schedule.len() as u32, current)
 }
 
 // The one line of a refusal.
@@ -88,12 +86,12 @@ pub(crate) fn put_head(out: &mut [u8], at: usize, mode: Mode, horizon: u32) -> u
     put_byte(out, k, b'\n')
 }
 
-// The word of a verdict. The library refuses none on a job of accepted lists, so a refusal has no word.
+// The word of a verdict.
+#[tactic(auto, using(text::proofs::Laws::Put::put_none), unfolding(crate::specs::Listing::verdict_word))]
 fn put_word(out: &mut [u8], at: usize, verdict: Verdict) -> usize
     ensures { Put out.old at (verdict_word verdict) out.new result }
 {
     match verdict {
-        Verdict::Refused(_, _) => at,
         Verdict::Met => put_text(out, at, b"met"),
         Verdict::Late(_, _) => put_text(out, at, b"late"),
         Verdict::Ended => put_text(out, at, b"ended"),
@@ -102,6 +100,7 @@ fn put_word(out: &mut [u8], at: usize, verdict: Verdict) -> usize
 }
 
 // Finishing instant or ending tick, `-` where there is neither.
+#[tactic(auto, unfolding(crate::specs::Listing::instant))]
 fn put_instant(out: &mut [u8], at: usize, standing: Standing) -> usize
     ensures { Put out.old at (instant standing) out.new result }
 {
@@ -126,15 +125,13 @@ fn put_by(out: &mut [u8], at: usize, by: u32, exact: bool) -> usize
 }
 
 // The same, for a late job only.
+#[tactic(auto, using(text::proofs::Laws::Put::put_none), unfolding(crate::specs::Listing::lateness, text::specs::Decimal::spaced))]
 fn put_late(out: &mut [u8], at: usize, verdict: Verdict) -> usize
     ensures { Put out.old at (spaced (lateness verdict)) out.new result }
 {
     match verdict {
-        Verdict::Refused(_, _) => at,
-        Verdict::Met => at,
         Verdict::Late(by, exact) => put_by(out, at, by, exact),
-        Verdict::Ended => at,
-        Verdict::Open => at,
+        Verdict::Met | Verdict::Ended | Verdict::Open => at,
     }
 }
 
@@ -176,15 +173,11 @@ pub(crate) fn put_jobs(
     ensures { Put out.old at (job_lines (lists tasks.now jobs.now) rec (job_count jobs.now)) out.new result }
 {
     let all = zsrm::verdicts(rec, mode, tasks, jobs);
-    let n = jobs.len() / 3;
-    let mut j: usize = 0;
     let mut k = at;
-    while j < n {
-        let judged = all.of[j];
-        let place = rec.places[j];
-        let verdict = judged.verdict;
-        k = put_job(out, k, j as u32, verdict, place);
-        j += 1;
+    for j in 0..jobs.len() / 3 {
+        // the library refuses no verdict on a job of accepted lists
+        let verdict = all.of[j].unwrap();
+        k = put_job(out, k, j as u32, verdict, rec.places[j]);
     }
     k
 }

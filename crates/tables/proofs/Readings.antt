@@ -11,8 +11,8 @@ use lib.Dec.{eqb, ltb}
 use borrow.Author.Tests.{eq-eqb, eqb-false, eqb-true, ne_eqb}
 use Rattle.bits.proofs.Laws.Bools.{passed, passes, apart}
 use Rattle.bits.proofs.Readings.{greatest_reads}
-use Rattle.tables.specs.declared.answers.Outcome.{Outcome}
-use Rattle.tables.specs.declared.answers.Outcome.TheVariants.{Done, Refused}
+use Rattle.std.specs.Prelude.{Err}
+use Rattle.tables.specs.Outcomes.{Outcome, Done, Refused}
 use Rattle.tables.specs.Tables.{arrival, period, task_of}
 use Rattle.tables.specs.Refusals.{ascending, before, check8, preceding, refuse}
 use Rattle.tables.proofs.Laws.Refusals.{ascending_at, before_first, before_second, refused_here}
@@ -60,7 +60,7 @@ before_done a b = (λ h. (before_first a b h, before_second a b h), λ w. rw w.0
 pub before_refused : (a b : Outcome) (x y : ℕ) → before a b ≡ Refused x y ↔ (a ≡ Refused x y) ⊎ ((a ≡ Done) × (b ≡ Refused x y))
 unfolding before
 before_refused Done b x y = (λ h. inr (refl, h), ⊎_elim (λ e. apart (cc)) (λ w. w.1))
-before_refused (Refused m n) b x y = (λ h. inl h, ⊎_elim (λ e. e) (λ w. let e = w.0 in apart (cc)))
+before_refused (Err w) b x y = (λ h. inl h, ⊎_elim (λ e. e) (λ v. let e = v.0 in apart (cc)))
 
 -- "then tasks ascending", "then jobs ascending": every check is done; else the first that is not answers.
 pub ascending_done : (f : ℕ → Outcome) (n : ℕ) → ascending n f ≡ Done ↔ ((i : ℕ) → i < n → f i ≡ Done)
@@ -87,7 +87,7 @@ ascending_refused f n x y = (there n, back)
         go : (o : Outcome) → ascending n f ≡ o → before o (f n) ≡ Refused x y
             → (ascending n f ≡ Refused x y → (i : ℕ) × FirstRefusal f n x y i) → (i : ℕ) × FirstRefusal f (suc n) x y i
         go Done q h ih = (n, record { place = omega arith; refused = h; earlier = λ k l. ascending_at f n k l q })
-        go (Refused a b) q h ih =
+        go (Err refusal) q h ih =
             let w = ih (q ∙ h) in (w.0, record { place = omega arith; refused = w.1.refused; earlier = w.1.earlier })
 
     back : (i : ℕ) × FirstRefusal f n x y i → ascending n f ≡ Refused x y

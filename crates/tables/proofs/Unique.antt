@@ -25,7 +25,6 @@ use Rattle.tables.proofs.fields.job_count.Reads as job-count
 use Rattle.tables.proofs.fields.nominal_of.Reads as nominal-of
 use Rattle.tables.proofs.fields.priority_of.Reads as priority-of
 use Rattle.tables.proofs.fields.zero_slack_instant.Reads as zero-slack-instant
-use Rattle.tables.proofs.refusals.before.Reads as before
 use Rattle.tables.proofs.refusals.check10.Reads as check10
 use Rattle.tables.proofs.refusals.check13.Reads as check13
 use Rattle.tables.proofs.refusals.check9.Reads as check9
@@ -80,9 +79,6 @@ equals_one κs a r s e f p q = p ∙ sym q
 
 pub refuse_one : (κs : _) (a : _) (r s : _) (e f : _) → refuse.Learnt κs a r e → refuse.Learnt κs a s f → r ≡ s
 refuse_one κs a r s e f p q = p ∙ sym q
-
-pub before_one : (κs : _) (a : _) (r s : _) (e f : _) → before.Learnt κs a r e → before.Learnt κs a s f → r ≡ s
-before_one κs a r s e f p q = p ∙ sym q
 
 -- any fields are those of some table's task k
 task_listed : (task : Task) (k : ℕ) → (tasks : List ℕ) × (task ≡ task_at tasks k)

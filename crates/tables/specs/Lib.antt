@@ -1,3 +1,4 @@
+pub mod Outcomes
 pub mod Tables
 pub mod Refusals
 pub mod Bytes

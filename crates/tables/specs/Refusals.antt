@@ -1,9 +1,8 @@
 -- Document 01, "Refusal numbers": each check alone, under its number, and the order of those that a task table and a job list meet. 1, 11 and
 -- 12 stand with the modes and records that they are about, 14 with the listing's text.
-use Rattle.std.specs.Prelude.{ℕ, zero, suc, ◌+◌, ◌-◌, ◌%◌, Bool, true, false, not, ◌&&◌, ◌||◌, List, length, ltb, eqb}
+use Rattle.std.specs.Prelude.{ℕ, zero, suc, ◌+◌, ◌-◌, ◌%◌, Bool, true, false, not, ◌&&◌, ◌||◌, List, length, ltb, eqb, Err}
 use Rattle.bits.specs.Below.{greatest}
-use Rattle.tables.specs.declared.answers.Outcome.{Outcome}
-use Rattle.tables.specs.declared.answers.Outcome.TheVariants.{Done, Refused}
+use Rattle.tables.specs.Outcomes.{Outcome, Done, Refused}
 use Rattle.tables.specs.Tables.{Lists, task_count, period, deadline, nominal, overload, criticality, priority, offset, job_count, task_of, arrival, execution}
 
 -- A check refuses, with its number and place, exactly when its test passes.
@@ -14,7 +13,7 @@ refuse false number place = Done
 -- The first refusal goes first.
 unfoldable pub before : Outcome → Outcome → Outcome
 before Done later = later
-before (Refused number place) later = Refused number place
+before (Err refusal) later = Err refusal
 
 -- The checks of the places below the bound, ascending.
 unfoldable pub ascending : ℕ → (ℕ → Outcome) → Outcome
@@ -106,5 +105,5 @@ check13 jobs j = refuse (not (ltb j (job_count jobs))) 13 0
 module _ {A : Type 0} where
   -- what a refusal's number and place give, or the answer where nothing is refused
   unfoldable pub unless : Outcome → (ℕ → ℕ → A) → A → A
-  unless (Refused number place) refused answer = refused number place
+  unless (Err refusal) refused answer = refused refusal.number refusal.place
   unless Done refused answer = answer

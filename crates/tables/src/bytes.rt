@@ -6,11 +6,10 @@ ghost use Rattle.tables.specs.Fields.{task_at, job_at};
 use crate::fields::{Criticality, Job, Priority, Task};
 
 // The byte at place i, or 0 past the end.
-fn byte_at(bytes: &[u8], i: usize) -> u32
-    ensures is { result ≡ get_or bytes.now i 0 }
-    ensures small { result < 256 }
+fn byte_at(bytes: &[u8], i: usize) -> u8
+    ensures { result ≡ get_or bytes.now i 0 }
 {
-    if i < bytes.len() { bytes[i] as u32 } else { 0 }
+    bytes.get(i).copied().unwrap_or(0)
 }
 
 // The number of four bytes that begins at byte `at`, bytes past the end being 0.
@@ -20,10 +19,12 @@ pub fn number_at(bytes: &[u8], at: usize) -> u32
     if bytes.len() <= at {
         return 0;
     }
-    byte_at(bytes, at)
-        + byte_at(bytes, at + 1) * 256
-        + byte_at(bytes, at + 2) * 65536
-        + byte_at(bytes, at + 3) * 16777216
+    u32::from_le_bytes([
+        byte_at(bytes, at),
+        byte_at(bytes, at + 1),
+        byte_at(bytes, at + 2),
+        byte_at(bytes, at + 3),
+    ])
 }
 
 // A number written as four bytes from byte `at` on, the lowest first; where they do not fit, nothing is written.
@@ -33,13 +34,10 @@ pub fn put_at(bytes: &mut [u8], at: usize, number: u32)
     if bytes.len() <= at {
         return;
     }
-    if bytes.len() <= at + 3 {
+    if bytes.len() - at < 4 {
         return;
     }
-    bytes[at] = (number % 256) as u8;
-    bytes[at + 1] = (number / 256 % 256) as u8;
-    bytes[at + 2] = (number / 65536 % 256) as u8;
-    bytes[at + 3] = (number / 16777216) as u8;
+    bytes[at..at + 4].copy_from_slice(&number.to_le_bytes());
 }
 
 // The number at place i of those that the bytes spell, or 0 past the last whole one.
@@ -58,10 +56,7 @@ fn whole_number(bytes: &[u8], at: usize) -> u32
     requires { at + 4 ≤ length bytes.now }
     ensures { result ≡ number_at 4 bytes.now at }
 {
-    (bytes[at] as u32)
-        + (bytes[at + 1] as u32) * 256
-        + (bytes[at + 2] as u32) * 65536
-        + (bytes[at + 3] as u32) * 16777216
+    u32::from_le_bytes([bytes[at], bytes[at + 1], bytes[at + 2], bytes[at + 3]])
 }
 
 // The fields of task k, where all its bytes are there.

@@ -8,18 +8,18 @@ ghost use Rattle.tables.specs.Fields.{task_at, job_at};
 pub const IDLE: u16 = 65535;
 
 // Larger runs first. No criticality is one.
-#[derive(Clone, Copy)]
+#[derive(Clone, Copy, Debug, PartialEq, Eq, PartialOrd, Ord)]
 pub struct Priority(pub u32);
 
 // Larger matters more. No priority is one.
-#[derive(Clone, Copy)]
+#[derive(Clone, Copy, Debug, PartialEq, Eq, PartialOrd, Ord)]
 pub struct Criticality(pub u32);
 
 // The number at place i, or 0 past the list's end.
 fn at(list: &[u32], i: usize) -> u32
     ensures { result ≡ get_or list.now i 0 }
 {
-    if i < list.len() { list[i] } else { 0 }
+    list.get(i).copied().unwrap_or(0)
 }
 
 // How many jobs the list has.
@@ -30,7 +30,7 @@ pub fn job_count(jobs: &[u32]) -> usize
 }
 
 // A task's fields.
-#[derive(Clone, Copy)]
+#[derive(Clone, Copy, Debug, PartialEq, Eq)]
 pub struct Task {
     pub period: u32,
     pub deadline: u32,
@@ -59,7 +59,7 @@ pub(crate) fn task_at(tasks: &[u32], k: u32) -> Task
 }
 
 // A job's fields.
-#[derive(Clone, Copy)]
+#[derive(Clone, Copy, Debug, PartialEq, Eq)]
 pub struct Job {
     pub task: u32,
     pub arrival: u32,
@@ -136,7 +136,7 @@ impl Criticality {
     pub fn exceeds(self, other: Criticality) -> bool
         ensures { result ≡ ltb other.0 self.0 }
     {
-        other.0 < self.0
+        self > other
     }
 }
 
@@ -145,6 +145,6 @@ impl Priority {
     pub fn equals(self, other: Priority) -> bool
         ensures { result ≡ eqb self.0 other.0 }
     {
-        self.0 == other.0
+        self == other
     }
 }

@@ -5,15 +5,16 @@
 mod answers;
 mod bytes;
 mod fields;
+mod listed;
 mod refusals;
 
-pub use answers::Outcome;
+pub use answers::{Outcome, Refusal};
 pub use bytes::{job_in, number_at, put_at, task_in};
 pub use fields::{
     Criticality, IDLE, Job, Priority, Task, criticality_of, deadline_instant, job_at, job_count,
     nominal_of, priority_of, zero_slack_instant,
 };
 pub use refusals::{
-    before, check_jobs, check_lists, check_lists_in, check_schedule, check_task, check_tasks,
+    check_jobs, check_lists, check_lists_in, check_schedule, check_task, check_tasks,
     check_tasks_in, check9, check10, check13, refuse,
 };

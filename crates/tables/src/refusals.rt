@@ -7,28 +7,18 @@ ghost use Rattle.tables.specs.Refusals.{refuse, before, outside, check3, check4,
 ghost use Rattle.tables.specs.Bytes.{numbers_in, check_tasks_in, check_jobs_in, check_lists_in};
 ghost use Rattle.tables.specs.Code.{soonest, Noted, Seen};
 
-use crate::answers::Outcome;
-use crate::bytes::{job_in, task_in};
-use crate::fields::{Job, Task, job_at, task_at};
+use crate::answers::{Outcome, Refusal};
+use crate::fields::{Job, Task};
+use crate::listed::Listed;
 
 // A check refuses, with its number and place, exactly when its test passes.
 pub fn refuse(test: bool, number: u32, place: u32) -> Outcome
     ensures { result ≡ refuse test number place }
 {
     if test {
-        Outcome::Refused(number, place)
+        Err(Refusal { number, place })
     } else {
-        Outcome::Done
-    }
-}
-
-// The first refusal goes first.
-pub fn before(first: Outcome, later: Outcome) -> Outcome
-    ensures { result ≡ before first later }
-{
-    match first {
-        Outcome::Done => later,
-        Outcome::Refused(n, p) => Outcome::Refused(n, p),
+        Ok(())
     }
 }
 
@@ -70,26 +60,32 @@ fn check4(task: Task, k: u32) -> Outcome
 }
 
 // 3 before 4, for task k, whose fields are given.
+#[tactic(auto, unfolding(crate::specs::Refusals::before))]
 pub fn check_task(task: Task, k: u32) -> Outcome
     ensures { (tasks : List ℕ) → task ≡ task_at tasks k → result ≡ before (check3 tasks k) (check4 tasks k) }
 {
-    before(check3(task, k), check4(task, k))
+    check3(task, k)?;
+    check4(task, k)
 }
 
 // 2: the task list's length is no multiple of 7, or there is no task, or over 16; then the tasks ascending.
+fn check_tasks_of<L: Listed>(tasks: L) -> Outcome
+    ensures { result ≡ check_tasks (L.numbers tasks) }
+{
+    let size = tasks.size();
+    let count = size / 7;
+    refuse((size % 7 != 0) | ((count < 1) | (16 < count)), 2, 0)?;
+    for k in 0..count {
+        check_task(tasks.task(k as u32), k as u32)?;
+    }
+    Ok(())
+}
+
+// The same of a list of numbers.
 pub fn check_tasks(tasks: &[u32]) -> Outcome
     ensures { result ≡ check_tasks tasks.now }
 {
-    let count = tasks.len() / 7;
-    if (tasks.len() % 7 != 0) | ((count < 1) | (16 < count)) {
-        return Outcome::Refused(2, 0);
-    }
-    let mut found = Outcome::Done;
-    for k in 0..count {
-        let task = task_at(tasks, k as u32);
-        found = before(found, check_task(task, k as u32));
-    }
-    found
+    check_tasks_of(tasks)
 }
 
 // 6, 7, 8 in this order, for job j: the table has so many tasks, the job above arrived at `above`, and the job's task allows it `from` then on.
@@ -99,38 +95,34 @@ fn check_job(job: Job, task: Task, count: usize, above: u32, from: u64, j: u32) 
 {
     // 6: the job's task is not in the table, its arrival is over 16,384, or c > Co
     let known = (job.task as usize) < count;
-    let six = refuse(
+    refuse(
         !known | (16384 < job.arrival) | (task.overload < job.execution),
         6,
         j,
-    );
+    )?;
     // 7: its arrival lies before that of the job above it in the list
-    let seven = refuse(job.arrival < above, 7, j);
+    refuse(job.arrival < above, 7, j)?;
     // 8: it comes less than T after the preceding job of its task
-    let eight = refuse((job.arrival as u64) < from, 8, j);
-    before(six, before(seven, eight))
+    refuse((job.arrival as u64) < from, 8, j)
 }
 
 // The soonest that a job of task k may arrive behind the first n jobs, by looking back at them.
-fn looked_back(tasks: &[u32], jobs: &[u32], n: u32, k: u32) -> u64
-    ensures { result ≡ soonest tasks.now jobs.now n k }
+fn looked_back<L: Listed>(tasks: L, jobs: L, n: u32, k: u32) -> u64
+    ensures { result ≡ soonest (L.numbers tasks) (L.numbers jobs) n k }
 {
-    let task = task_at(tasks, k);
-    let mut i = n;
-    while 0 < i {
-        i -= 1;
-        let job = job_at(jobs, i);
+    for i in (0..n).rev() {
+        let job = jobs.job(i);
         if job.task == k {
-            return (job.arrival as u64) + (task.period as u64);
+            return (job.arrival as u64) + (tasks.task(k).period as u64);
         }
     }
     0
 }
 
 // The same, as it is noted for the first 16 tasks. Only a table that is refused has more; their jobs are looked back at.
-fn soonest(noted: &[u64], tasks: &[u32], jobs: &[u32], n: u32, k: u32) -> u64
-    requires { Noted tasks.now jobs.now n noted.now }
-    ensures { result ≡ soonest tasks.now jobs.now n k }
+fn soonest<L: Listed>(noted: &[u64], tasks: L, jobs: L, n: u32, k: u32) -> u64
+    requires { Noted (L.numbers tasks) (L.numbers jobs) n noted.now }
+    ensures { result ≡ soonest (L.numbers tasks) (L.numbers jobs) n k }
 {
     if k < 16 {
         noted[k as usize]
@@ -150,95 +142,64 @@ fn note(noted: &mut [u64], job: Job, task: Task)
 }
 
 // 5: the job list's length is no multiple of 3, or there are over 64 jobs; then the jobs ascending, each looked at once.
-pub fn check_jobs(tasks: &[u32], jobs: &[u32]) -> Outcome
-    ensures { result ≡ check_jobs tasks.now jobs.now }
+fn check_jobs_of<L: Listed>(tasks: L, jobs: L) -> Outcome
+    ensures { result ≡ check_jobs (L.numbers tasks) (L.numbers jobs) }
 {
-    let count = jobs.len() / 3;
-    if (jobs.len() % 3 != 0) | (64 < count) {
-        return Outcome::Refused(5, 0);
-    }
-    let known = tasks.len() / 7;
+    let size = jobs.size();
+    let count = size / 3;
+    refuse((size % 3 != 0) | (64 < count), 5, 0)?;
+    let known = tasks.size() / 7;
     let mut noted = [0u64; 16];
     let mut above: u32 = 0;
-    let mut found = Outcome::Done;
     for j in 0..count {
-        let job = job_at(jobs, j as u32);
-        let task = task_at(tasks, job.task);
+        let job = jobs.job(j as u32);
+        let task = tasks.task(job.task);
         let from = soonest(&noted, tasks, jobs, j as u32, job.task);
-        found = before(found, check_job(job, task, known, above, from, j as u32));
+        check_job(job, task, known, above, from, j as u32)?;
         note(&mut noted, job, task);
         above = job.arrival;
     }
-    found
+    Ok(())
+}
+
+// The same of lists of numbers.
+pub fn check_jobs(tasks: &[u32], jobs: &[u32]) -> Outcome
+    ensures { result ≡ check_jobs tasks.now jobs.now }
+{
+    check_jobs_of(tasks, jobs)
 }
 
 // What every entry point that is given tasks and jobs checks first.
-#[tactic(auto, unfolding(crate::specs::Refusals::check_lists))]
+#[tactic(auto, unfolding(crate::specs::Refusals::check_lists, crate::specs::Refusals::before))]
 pub fn check_lists(tasks: &[u32], jobs: &[u32]) -> Outcome
     ensures { result ≡ check_lists (lists tasks.now jobs.now) }
 {
-    before(check_tasks(tasks), check_jobs(tasks, jobs))
+    check_tasks(tasks)?;
+    check_jobs(tasks, jobs)
 }
 
 // 2 to 4 for a table that lies in bytes; a count of them that makes no whole number is refused as the list's length.
 pub fn check_tasks_in(tasks: &[u8]) -> Outcome
     ensures { result ≡ check_tasks_in tasks.now }
 {
-    let n = tasks.len() / 4;
-    let count = n / 7;
-    if (tasks.len() % 4 != 0) | ((n % 7 != 0) | ((count < 1) | (16 < count))) {
-        return Outcome::Refused(2, 0);
-    }
-    let mut found = Outcome::Done;
-    for k in 0..count {
-        let task = task_in(tasks, k as u32);
-        found = before(found, check_task(task, k as u32));
-    }
-    found
+    refuse(tasks.len() % 4 != 0, 2, 0)?;
+    check_tasks_of(tasks)
 }
 
-// What is noted for task k, 0 for a task past the noted ones.
-fn noted_for(noted: &[u64], k: u32) -> u64
-    ensures { result ≡ get_or noted.now k 0 }
-{
-    let at = k as usize;
-    if at < noted.len() { noted[at] } else { 0 }
-}
-
-// 5 to 8 for a job list that lies in bytes, beside a table that has no more tasks than are noted.
+// 5 to 8 for a job list that lies in bytes.
 fn check_jobs_in(tasks: &[u8], jobs: &[u8]) -> Outcome
-    requires { task_count (numbers_in 4 tasks.now) ≤ 16 }
     ensures { result ≡ check_jobs_in tasks.now jobs.now }
 {
-    let n = jobs.len() / 4;
-    let count = n / 3;
-    if (jobs.len() % 4 != 0) | ((n % 3 != 0) | (64 < count)) {
-        return Outcome::Refused(5, 0);
-    }
-    let known = tasks.len() / 4 / 7;
-    let mut noted = [0u64; 16];
-    let mut above: u32 = 0;
-    let mut found = Outcome::Done;
-    for j in 0..count {
-        let job = job_in(jobs, j as u32);
-        let task = task_in(tasks, job.task);
-        let from = noted_for(&noted, job.task);
-        found = before(found, check_job(job, task, known, above, from, j as u32));
-        note(&mut noted, job, task);
-        above = job.arrival;
-    }
-    found
+    refuse(jobs.len() % 4 != 0, 5, 0)?;
+    check_jobs_of(tasks, jobs)
 }
 
 // What every entry point that is given tasks and jobs in bytes checks first, without copying them.
 pub fn check_lists_in(tasks: &[u8], jobs: &[u8]) -> Outcome
     ensures { result ≡ check_lists_in tasks.now jobs.now }
 {
-    let table = check_tasks_in(tasks);
-    match table {
-        Outcome::Done => check_jobs_in(tasks, jobs),
-        Outcome::Refused(number, k) => Outcome::Refused(number, k),
-    }
+    check_tasks_in(tasks)?;
+    check_jobs_in(tasks, jobs)
 }
 
 // 9: the horizon is over 16,384.
@@ -256,14 +217,13 @@ pub fn check10(entries: usize, horizon: u32) -> Outcome
 }
 
 // What every entry point that is given lists, a horizon and a schedule checks: 2 to 10.
-#[tactic(auto, unfolding(crate::specs::Refusals::check_schedule))]
+#[tactic(auto, unfolding(crate::specs::Refusals::check_schedule, crate::specs::Refusals::before))]
 pub fn check_schedule(tasks: &[u32], jobs: &[u32], horizon: u32, entries: usize) -> Outcome
     ensures { result ≡ check_schedule (lists tasks.now jobs.now) horizon entries }
 {
-    before(
-        check_lists(tasks, jobs),
-        before(check9(horizon), check10(entries, horizon)),
-    )
+    check_lists(tasks, jobs)?;
+    check9(horizon)?;
+    check10(entries, horizon)
 }
 
 // 13: the call names a job not in the list.

@@ -5,7 +5,7 @@ use mathlib.Core.List.{List}
 use mathlib.Core.Path.{◌≡◌}
 use native.Mathlib.Omega.{arith}
 use lib.ListN.{get_or, length}
-use Rattle.text.specs.declared.answers.Number.TheVariants.{Value}
+use Rattle.text.specs.Decimal.{Value}
 use Rattle.text.specs.Decimal.{decimal, is_digit, decimal_at, wide_at}
 use Rattle.text.specs.Wrote.{Put}
 use Rattle.text.proofs.Laws.ReadBack.{back}

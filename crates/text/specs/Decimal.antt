@@ -1,8 +1,16 @@
 -- Decimal text: what stands at a position of a text, and what is written for a number.
 -- A text is a list of bytes; `0` to `9` are the bytes 48 to 57.
-use Rattle.std.specs.Prelude.{◌%◌, ◌*◌, ◌+◌, ◌-◌, ◌/◌, suc, zero, ℕ, ◌&&◌, Bool, cond, ◌++◌, List, [], map, ◌∷◌, leb, ltb, drop, length}
-use Rattle.text.specs.declared.answers.Number.{Number}
-use Rattle.text.specs.declared.answers.Number.TheVariants.{Malformed, Value}
+use Rattle.std.specs.Prelude.{◌%◌, ◌*◌, ◌+◌, ◌-◌, ◌/◌, suc, zero, ℕ, ◌&&◌, Bool, cond, ◌++◌, List, [], map, ◌∷◌, leb, ltb, drop, length, Option, Some, None}
+
+-- what stands at a position: a value, with the position after its last digit, or no number
+abbrev pub Number : Type 0
+Number = Option (ℕ × ℕ)
+
+pattern abbrev pub Value : ℕ → ℕ → Number
+Value v after = Some (v, after)
+
+pattern abbrev pub Malformed : Number
+Malformed = None
 
 -- a byte is a digit
 abbrev pub is_digit : ℕ → Bool

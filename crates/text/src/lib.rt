@@ -7,23 +7,16 @@ ghost use Rattle.std.specs.Prelude.{◌≡◌, [], ◌∷◌, ◌≤◌, drop, l
 ghost use Rattle.text.specs.Decimal.{decimal, decimal_at, number_within, numbers, wide_at};
 ghost use Rattle.text.specs.Wrote.{Put};
 
-mod answers;
-
-pub use answers::Number;
-
 // The byte at a position, or 256 past the end.
 pub fn byte_at(text: &[u8], at: usize) -> u32
     ensures { result ≡ get_or text.now at 256 }
 {
-    if at < text.len() {
-        text[at] as u32
-    } else {
-        256
-    }
+    text.get(at).map_or(256, |b| *b as u32)
 }
 
-// The number of 1 to `most` digits at a position, within 32 bits, leading zeros allowed. One digit more makes it malformed.
-fn number_within(text: &[u8], at: usize, most: usize) -> Number
+// The number of 1 to `most` digits at a position, within 32 bits, leading zeros allowed, and the position after its last digit. One digit
+// more makes it malformed, and what is malformed is none.
+fn number_within(text: &[u8], at: usize, most: usize) -> Option<(u32, usize)>
     requires { most ≤ 10 }
     ensures { result ≡ number_within most text.now at }
 {
@@ -31,9 +24,10 @@ fn number_within(text: &[u8], at: usize, most: usize) -> Number
     let mut n: usize = 0;
     let mut k = at;
     let mut b = byte_at(text, k);
+    // no `for`: the text says where the digits end, and the byte behind the last one allowed is looked at, too
     while 48 <= b && b <= 57 {
         if most <= n {
-            return Number::Malformed;
+            return None;
         }
         value = value * 10 + ((b - 48) as u64);
         n += 1;
@@ -41,23 +35,23 @@ fn number_within(text: &[u8], at: usize, most: usize) -> Number
         b = byte_at(text, k);
     }
     if n < 1 {
-        return Number::Malformed;
+        return None;
     }
     if 4294967295 < value {
-        return Number::Malformed;
+        return None;
     }
-    Number::Value(value as u32, k)
+    Some((value as u32, k))
 }
 
-// The number of 1 to 5 digits at a position, leading zeros allowed. A sixth digit makes it malformed.
-pub fn read(text: &[u8], at: usize) -> Number
+// The number of 1 to 5 digits at a position, leading zeros allowed, and the position after it. A sixth digit makes it malformed: none.
+pub fn read(text: &[u8], at: usize) -> Option<(u32, usize)>
     ensures { result ≡ decimal_at text.now at }
 {
     number_within(text, at, 5)
 }
 
-// The number of 1 to 10 digits at a position, leading zeros allowed; past 4,294,967,295 it is malformed.
-pub fn read_wide(text: &[u8], at: usize) -> Number
+// The number of 1 to 10 digits at a position, leading zeros allowed, and the position after it; past 4,294,967,295 it is malformed: none.
+pub fn read_wide(text: &[u8], at: usize) -> Option<(u32, usize)>
     ensures { result ≡ wide_at text.now at }
 {
     number_within(text, at, 10)
@@ -79,10 +73,8 @@ pub fn put_text(out: &mut [u8], at: usize, text: &[u8]) -> usize
     ensures { Put out.old at text.now out.new result }
 {
     let mut k = at;
-    let mut i: usize = 0;
-    while i < text.len() {
-        k = put_byte(out, k, text[i]);
-        i += 1;
+    for &b in text {
+        k = put_byte(out, k, b);
     }
     k
 }
@@ -95,6 +87,7 @@ fn put_digits(room: &mut [u8], x: u32) -> usize
     let mut rest = x;
     let mut i: usize = 9;
     room[9] = 48 + (rest % 10) as u8;
+    // no `for`: the number says how many digits it has
     while 10 <= rest {
         rest = rest / 10;
         i -= 1;
@@ -117,11 +110,9 @@ pub fn put_numbers(out: &mut [u8], at: usize, xs: &[u32]) -> usize
     ensures { Put out.old at (numbers xs.now) out.new result }
 {
     let mut k = at;
-    let mut i: usize = 0;
-    while i < xs.len() {
+    for &x in xs {
         let a = put_byte(out, k, b' ');
-        k = put_number(out, a, xs[i]);
-        i += 1;
+        k = put_number(out, a, x);
     }
     k
 }

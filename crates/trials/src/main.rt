@@ -3,7 +3,6 @@
 #![tactic(auto)]
 
 mod altered;
-mod answers;
 mod claims;
 mod day;
 mod evening;

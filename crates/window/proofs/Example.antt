@@ -5,7 +5,9 @@ use mathlib.Core.Bool.{true}
 use mathlib.Core.List.{List, [], ◌++◌, ◌∷◌, map}
 use mathlib.Core.Path.{ap, refl, ◌≡◌}
 use lib.ListN.{get_or, length}
+use Rattle.std.specs.Prelude.{Result, Ok}
 use Rattle.bits.specs.Below.{every, greatest, least, list_from, some}
+use Rattle.tables.specs.declared.answers.Refusal.{Refusal}
 use Rattle.tables.specs.Refusals.{ascending, before, check13, check2, check3, check4, check5, check6, check7, check8, check_jobs, check_lists, check_tasks, outside, preceding, refuse, unless}
 use Rattle.tables.specs.Said.{refused}
 use Rattle.tables.specs.Tables.{arrival, criticality, deadline, deadline_instant, execution, job_count, job_criticality, job_nominal, job_priority}
@@ -78,11 +80,12 @@ table =
     ∷ []
 
 -- and the verdicts on the seeds in either mode
-abbrev verdicts_in : Mode → List Verdict
+abbrev verdicts_in : Mode → List (Result Verdict Refusal)
 verdicts_in mode = verdicts_on (given mode tasks (seeds 10)) (ran mode (seeds 10) 48) 0
 
 pub examples : (map answered table ≡ map expected table)
-    × (verdicts_in S ≡ Met ∷ Late 2 true ∷ Met ∷ Met ∷ Late 2 true ∷ Met ∷ []) × (verdicts_in SE ≡ Met ∷ Ended ∷ Met ∷ Met ∷ Ended ∷ Met ∷ [])
+    × (verdicts_in S ≡ Ok Met ∷ Ok (Late 2 true) ∷ Ok Met ∷ Ok Met ∷ Ok (Late 2 true) ∷ Ok Met ∷ [])
+    × (verdicts_in SE ≡ Ok Met ∷ Ok Ended ∷ Ok Met ∷ Ok Met ∷ Ok Ended ∷ Ok Met ∷ [])
 unfolding some every least greatest list_from task_count period deadline nominal overload criticality priority offset job_count task_of arrival execution
     job_criticality job_priority job_nominal zero_slack_instant deadline_instant refuse before ascending outside check2 check3 check4 check_tasks check5
     preceding check6 check7 check8 check_jobs check_lists check11 check13 place_at done_at suspended_at waited_at standing_at arriving arrived opening

@@ -20,12 +20,14 @@ use lib.Dec.{eqb}
 use lib.ListN.{get_or-map, get_or, length, length-map}
 use Rattle.bits.specs.Below.{count}
 use Rattle.bits.proofs.Laws.Bools.{apart}
-use Rattle.tables.specs.declared.answers.Outcome.TheVariants.{Done, Refused}
+use Rattle.std.specs.Prelude.{Result, Err, Ok}
+use Rattle.tables.specs.declared.answers.Refusal.{Refusal}
+use Rattle.tables.specs.Outcomes.{Done, Refused}
 use Rattle.tables.specs.Refusals.{check_lists}
 use Rattle.tables.specs.Said.{done, outcome_said, refused}
 use Rattle.tables.specs.Tables.{job_count, task_count, task_of}
-use Rattle.tables.proofs.Laws.Said.{outcome_said_law, refusal_exactly, said_done, said_refused}
-use Rattle.tables.proofs.Laws.Refusals as refusals
+use Rattle.tables.proofs.Laws.Said.{given_exactly, outcome_said_law, refusal_exactly, said_done, said_refused}
+use Rattle.tables.proofs.Laws.Refusals.{same_ok}
 use Rattle.zsrm.specs.declared.answers.Verdict.{Verdict}
 use Rattle.zsrm.specs.declared.answers.Verdict.TheVariants as verdicts
 use Rattle.zsrm.specs.declared.record.Record.{Record}
@@ -34,7 +36,7 @@ use Rattle.zsrm.specs.Given.{Given}
 use Rattle.zsrm.specs.Record.{consistent, fresh}
 use Rattle.zsrm.specs.Run.{replay, replayed}
 use Rattle.zsrm.specs.Said.{claim_said, ended, late, legal, verdict_said}
-use Rattle.zsrm.specs.Verdict.{is_open, missed}
+use Rattle.zsrm.specs.Verdict.{is_open, missed, verdict_is}
 use Rattle.zsrm.proofs.Laws.Answers.{is_legal_law}
 use Rattle.zsrm.proofs.Laws.Said.{verdict_said_law}
 use Rattle.zsrm.proofs.Laws.Consistent.{replayed_consistent}
@@ -50,19 +52,21 @@ use Rattle.window.proofs.Laws.Jobs.{own_all, own_each, own_many, own_order}
 use Rattle.window.proofs.Laws.Later.{Later, judged_final, judged_stays, verdicts_later}
 use Rattle.window.proofs.Laws.Refusals.{Pair, accepted_exactly, lists_only, lists_refuse, pair_refuses, record_refuses, task_refuses, verdict_refuses}
 use Rattle.window.proofs.Laws.Said.{windows_said_law}
-use Rattle.window.proofs.Laws.Windows.{fails_reads, holds_shorter, never_refused, passes_reads}
+use Rattle.window.proofs.Laws.Windows.{fails_reads, holds_shorter, passes_reads}
 use Rattle.zsrm.proofs.Readings.{missed_reads}
 use Rattle.zsrm.proofs.Laws.Replay.{replay_append}
 
 -- ## The words
 
 -- A job is missed exactly where its verdict is late or ended, so an open job is not.
-pub missed_exactly : (v : Verdict) → missed v ≡ true ↔ ((n : ℕ) × (is_exact : Bool) × (verdict_said v ≡ late n is_exact)) ⊎ (verdict_said v ≡ ended)
+pub missed_exactly : (v : Result Verdict Refusal)
+    → verdict_is missed v ≡ true ↔ ((n : ℕ) × (is_exact : Bool) × (verdict_said v ≡ late n is_exact)) ⊎ (verdict_said v ≡ ended)
 unfolding verdict_said
-missed_exactly v =
+missed_exactly (Err w) = (λ e. apart (cc), ⊎_elim (λ w. let e = w.2 in apart (cc)) (λ e. apart (cc)))
+missed_exactly (Ok v) =
     Iff.trans (missed_reads v) (
-      ⊎_elim (λ w. inl (w.0, w.1, ap verdict_said w.2)) (λ e. inr (ap verdict_said e)),
-      ⊎_elim (λ w. inl (w.0, w.1, verdict_said_law v (verdicts.Late w.0 w.1) w.2)) (λ e. inr (verdict_said_law v verdicts.Ended e)),
+      ⊎_elim (λ w. inl (w.0, w.1, ap (λ (x : Verdict). verdict_said (Ok x)) w.2)) (λ e. inr (ap (λ (x : Verdict). verdict_said (Ok x)) e)),
+      ⊎_elim (λ w. inl (w.0, w.1, same_ok (verdict_said_law (Ok v) (Ok (verdicts.Late w.0 w.1)) w.2))) (λ e. inr (same_ok (verdict_said_law (Ok v) (Ok verdicts.Ended) e))),
     )
 
 -- The activations of a task are jobs of the list, and the task's ..
@@ -83,7 +87,7 @@ module _ (g : Given) (r : Record) (task : ℕ) where
   abbrev pub own : List ℕ
   own = activations g.lists.jobs task
 
-  abbrev pub vs : List Verdict
+  abbrev pub vs : List (Result Verdict Refusal)
   vs = verdicts_on g r task
 
   -- There is a verdict on each ..
@@ -97,7 +101,7 @@ module _ (g : Given) (r : Record) (task : ℕ) where
   own_verdict i = get_or-map (verdict_answer g r) own i 0
 
   -- `opens` counts the jobs of the list that are the task's and whose verdict is open.
-  pub opens_exactly : opens vs ≡ count (job_count g.lists.jobs) (λ j. eqb (task_of g.lists.jobs j) task && is_open (verdict_answer g r j))
+  pub opens_exactly : opens vs ≡ count (job_count g.lists.jobs) (λ j. eqb (task_of g.lists.jobs j) task && verdict_is is_open (verdict_answer g r j))
   unfolding opens verdicts_on
   opens_exactly = own_many g.lists.jobs task is_open (verdict_answer g r)
 
@@ -118,7 +122,7 @@ module _ (g : Given) (r : Record) (task : ℕ) where
     pub refused_exactly : (number place : ℕ) → said ≡ refused number place ↔ checks ≡ refused number place
     unfolding windows_said judge_answer
     refused_exactly number place =
-        refusal_exactly windows_said windows_said_law windows.Refused (λ n p x y e. cc) (λ n p. refl) (windows_of own vs m k) (never_refused own vs m k) (check_judge g r task m k) number place
+        refusal_exactly windows_said windows_said_law (windows_of own vs m k) (check_judge g r task m k) (λ n p. refl) number place
 
     -- They pass exactly where the lists are accepted, the record is consistent, the pair is one, and the task is in the table.
     pub done_exactly : checks ≡ done ↔ (outcome_said (check_lists g.lists) ≡ done) × (consistent g r ≡ true) × Pair m k × (task < task_count g.lists.tasks)
@@ -178,23 +182,20 @@ module _ (g : Given) (r : Record) (task : ℕ) where
     -- ## Windows
 
     -- an answer that is no refusal is given where nothing is refused
-    answered : (x : Windows) → ((number place : ℕ) → x ≡ windows.Refused number place → ⊥) → said ≡ windows_said x ↔ (checks ≡ done) × (windows_of own vs m k ≡ x)
+    answered : (x : Windows) → said ≡ windows_said (Ok x) ↔ (checks ≡ done) × (windows_of own vs m k ≡ x)
     unfolding judge_answer
-    answered x proper =
-        Iff.trans (windows_said_law (judge_answer g r task m k) x, ap windows_said)
-        (Iff.trans (refusals.answered windows.Refused (windows_of own vs m k) x (λ n p e. proper n p (sym e)) (check_judge g r task m k))
-        (λ w. ((said_done (check_judge g r task m k)).1 w.0, w.1), λ w. ((said_done (check_judge g r task m k)).0 w.0, w.1)))
+    answered x = given_exactly windows_said windows_said_law (windows_of own vs m k) (check_judge g r task m k) x
 
     fails_answered : (job number n : ℕ) → said ≡ one_fails job number n ↔ (checks ≡ done) × (windows_of own vs m k ≡ windows.Fails job number n)
     unfolding windows_said
-    fails_answered job number n = answered (windows.Fails job number n) (λ x y e. apart (cc))
+    fails_answered job number n = answered (windows.Fails job number n)
 
     -- It passes exactly where every k consecutive of the task's jobs contain at most m misses; the answer has the number of open jobs.
     pub passes_exactly : (n : ℕ) → said ≡ all_pass n ↔ (checks ≡ done) × ((i : ℕ) → i + k ≤ length own → misses (window vs k i) ≤ m) × (n ≡ opens vs)
     unfolding windows_said
     passes_exactly n =
         let reads = passes_reads own vs m k n in
-        Iff.trans (answered (windows.Passes n) (λ number place e. apart (cc))) (
+        Iff.trans (answered (windows.Passes n)) (
           λ w. let all = reads.0 w.1 in (w.0, λ i l. all.0 i (omega (arith, own_verdicts)), all.1),
           λ w. (w.0, reads.1 (λ i l. w.1 i (omega (arith, own_verdicts)), w.2)),
         )
@@ -283,7 +284,7 @@ module _ (g : Given) (r : Record) (task m k : ℕ) (entries : List ℕ) (sound :
   settled ok none =
       ap windows_said
       (answer_done g (replay g r entries) task m k (passed g (replay g r entries) task m k (still ok))
-      ∙ judged_final _ _ _ _ (onward ok) (own g r task) m k none ∙ sym (answer_done g r task m k (passed g r task m k ok)))
+      ∙ ap (λ (x : Windows). Ok x) (judged_final _ _ _ _ (onward ok) (own g r task) m k none) ∙ sym (answer_done g r task m k (passed g r task m k ok)))
 
 -- So it is over every legal continuation: the claim check answers legal on a schedule with more entries after it.
 module _ (g : Given) (horizon : ℕ) (schedule more : List ℕ) (ok : claim_said (claim_answer g horizon (schedule ++ more)) ≡ legal) (task m k : ℕ) where

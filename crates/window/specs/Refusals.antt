@@ -1,6 +1,6 @@
 -- Request Twelve's refusals, and their order: those of the lists and of the record, then 19, then 20.
 use Rattle.std.specs.Prelude.{ℕ, not, ◌||◌, List, eqb, ltb}
-use Rattle.tables.specs.declared.answers.Outcome.{Outcome}
+use Rattle.tables.specs.Outcomes.{Outcome}
 use Rattle.tables.specs.Refusals.{before, refuse}
 use Rattle.tables.specs.Tables.{task_count}
 use Rattle.zsrm.specs.declared.record.Record.{Record}

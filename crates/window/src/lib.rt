@@ -9,7 +9,7 @@ ghost use Rattle.window.specs.Answers.{judge_answer};
 use jobs::gather;
 use refusals::check_judge;
 use windows::windows_from;
-use zsrm::{Mode, Outcome, Record, verdicts};
+use zsrm::{Mode, Record, Refusal, verdicts};
 
 mod answers;
 mod jobs;
@@ -28,14 +28,10 @@ pub fn judge(
     task: u32,
     m: u32,
     k: u32,
-) -> Windows
+) -> Result<Windows, Refusal>
     ensures { result ≡ judge_answer (given mode tasks.now jobs.now) rec task m k }
 {
     let all = verdicts(rec, mode, tasks, jobs);
-    let judged = all.outcome;
-    let checked = check_judge(judged, tasks, task, m, k);
-    match checked {
-        Outcome::Done => windows_from(gather(all, jobs, task), m, k as usize),
-        Outcome::Refused(number, place) => Windows::Refused(number, place),
-    }
+    check_judge(all.outcome, tasks, task, m, k)?;
+    Ok(windows_from(gather(all, jobs, task), m, k as usize))
 }

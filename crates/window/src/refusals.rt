@@ -3,10 +3,11 @@ ghost use Rattle.std.specs.Prelude.{◌≡◌};
 ghost use Rattle.tables.specs.Refusals.{before};
 ghost use Rattle.window.specs.Refusals.{check19, check20};
 
-use tables::{before, refuse};
+use tables::refuse;
 use zsrm::Outcome;
 
 // 19: K = 0, K over 64 or m > K.
+#[tactic(auto, unfolding(crate::specs::Refusals::check19))]
 fn check19(m: u32, k: u32) -> Outcome
     ensures { result ≡ check19 m k }
 {
@@ -14,6 +15,7 @@ fn check19(m: u32, k: u32) -> Outcome
 }
 
 // 20: the task is not in the table.
+#[tactic(auto, unfolding(crate::specs::Refusals::check20, tables::specs::Tables::task_count))]
 fn check20(tasks: &[u32], task: u32) -> Outcome
     ensures { result ≡ check20 tasks.now task }
 {
@@ -22,10 +24,11 @@ fn check20(tasks: &[u32], task: u32) -> Outcome
 }
 
 // The checks in the order of their numbers, behind what the verdicts are refused with.
+#[tactic(auto, unfolding(tables::specs::Refusals::before))]
 pub(crate) fn check_judge(judged: Outcome, tasks: &[u32], task: u32, m: u32, k: u32) -> Outcome
     ensures { result ≡ before judged (before (check19 m k) (check20 tasks.now task)) }
 {
-    let pair = check19(m, k);
-    let known = check20(tasks, task);
-    before(judged, before(pair, known))
+    judged?;
+    check19(m, k)?;
+    check20(tasks, task)
 }

@@ -1,6 +1,6 @@
 // The windows of K consecutive jobs of a task: the first that fails.
 ghost use Rattle.std.specs.Prelude.{◌≡◌, ◌+◌, ◌<◌, ◌≤◌};
-ghost use Rattle.window.specs.Code.{Rising, first_over, misses_between, windows_from};
+ghost use Rattle.window.specs.Code.{FirstOver, Rising, misses_between, windows_from};
 
 use crate::answers::Windows;
 use crate::jobs::Gathered;
@@ -14,33 +14,26 @@ fn misses(own: Gathered, k: usize, i: usize) -> u32
     own.missed[end] - own.missed[i]
 }
 
-// The first window with more than m misses, or the number of windows.
-fn first_failing(own: Gathered, m: u32, k: usize) -> usize
+// The first window with more than m misses, if there is one.
+fn first_failing(own: Gathered, m: u32, k: usize) -> Option<usize>
     requires { Rising own × (k ≤ 64) }
-    ensures { result ≡ first_over own m k }
+    ensures { FirstOver own m k result }
 {
-    let mut i: usize = 0;
-    while i + k <= own.count {
+    for i in 0..(own.count + 1).saturating_sub(k) {
         if m < misses(own, k, i) {
-            return i;
+            return Some(i);
         }
-        i += 1;
     }
-    i
+    None
 }
 
-// What the windows come to: the first that fails, if its last job is one of the task's; else all pass.
+// What the windows come to: the first that fails, or all pass.
 pub(crate) fn windows_from(own: Gathered, m: u32, k: usize) -> Windows
     requires { Rising own × (0 < k) × (k ≤ 64) }
     ensures { result ≡ windows_from own m k }
 {
-    let i = first_failing(own, m, k);
-    let last = i + (k - 1);
-    let opens = own.opens;
-    if last < own.count {
-        let first = own.numbers[i];
-        Windows::Fails(first, misses(own, k, i), opens)
-    } else {
-        Windows::Passes(opens)
+    match first_failing(own, m, k) {
+        Some(i) => Windows::Fails(own.numbers[i], misses(own, k, i), own.opens),
+        None => Windows::Passes(own.opens),
     }
 }

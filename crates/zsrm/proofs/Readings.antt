@@ -18,6 +18,8 @@ use Rattle.bits.proofs.Laws.Below.{least_found, some_true}
 use Rattle.bits.proofs.Laws.Bools.{by_cond, clash, never_true, apart}
 use Rattle.bits.proofs.Readings.{and_fails, and_reads, eq_reads, least_reads, lt_fails, lt_reads, none_reads, not_reads, or_else, or_reads, some_reads}
 use Rattle.bits.proofs.Laws.Word.{bit_word}
+use Rattle.std.specs.Prelude.{Result, Ok, Err}
+use Rattle.tables.specs.declared.answers.Refusal.{Refusal}
 use Rattle.zsrm.specs.declared.answers.Claim.TheVariants.{Legal, NotLegal}
 use Rattle.zsrm.specs.declared.answers.Verdict.{Verdict}
 use Rattle.zsrm.specs.declared.answers.Witness.{Witness}
@@ -36,7 +38,7 @@ use Rattle.tables.specs.Tables.{arrival, deadline_instant, execution, idle, job_
 use Rattle.zsrm.specs.Tick.{advanced, alive, candidate, candidate_or_idle, choice, done_after, eligible, ended_word, ends, finishes, goes_on, job_word, keeps}
 use Rattle.zsrm.specs.Tick.{lowest, more_critical, over, past_zero_slack, place_after, ready_at, ready_count, ready_word, some_job, standing_after, suspended, suspended_after, waited_after, waits}
 use Rattle.zsrm.specs.Said.{verdict_said}
-use Rattle.zsrm.specs.Verdict.{answered, blamed, is_ended, is_late, is_met, is_open, judged, missed, verdict, witness, breaks, is_outside, outsider}
+use Rattle.zsrm.specs.Verdict.{verdict_is, answered, blamed, is_ended, is_late, is_met, is_open, judged, missed, verdict, witness, breaks, is_outside, outsider}
 use Rattle.zsrm.proofs.Laws.Places.{done_advanced, alive_unfinished, previous_advanced, standing_alive, suspended_advanced, waited_advanced}
 use Rattle.zsrm.proofs.Laws.Ready.{ready_ones, ready_exactly}
 use Rattle.zsrm.proofs.Laws.Replay.{legal_at, Beginning, beginning, beginning_is}
@@ -46,7 +48,6 @@ use Rattle.zsrm.proofs.Laws.Tick.{Raised, done_idle, done_ran, eligible_unended,
 use Rattle.zsrm.proofs.Laws.Tick.{se_reads, candidate_exactly, finishing, past_exactly, suspended_exactly, suspended_more, suspended_same, waited_more, waited_same, waiting}
 use Rattle.zsrm.specs.declared.answers.Verdict.TheVariants as verdicts
 use Rattle.zsrm.specs.declared.answers.Witness.TheVariants as witnesses
-use Rattle.zsrm.specs.declared.answers.Claim.TheVariants as claims
 use Rattle.zsrm.proofs.Laws.Choice as choices
 use Rattle.zsrm.specs.Said as say
 
@@ -326,11 +327,6 @@ claim_not_legal g es t = (there, back)
         let same : n ≡ t = beginning_is g (fresh g.lists.jobs) idle es t (record { within = omega (arith, w.within); good = w.earlier; bad = λ l. never_true _ w.illegal }) in
         rw (ne_eqb n (length es) (λ e. omega (arith, w.within))) (ap NotLegal same)
 
-pub claim_not_refused : (g : Given) (es : List ℕ) (number place : ℕ) → claim g es ≢ claims.Refused number place
-unfolding claim
-claim_not_refused g es number place =
-    by_cond (λ c. c ≢ claims.Refused number place) (is_legal g es) Legal (NotLegal (legal_length g es)) (λ q e. apart (cc)) (λ q e. apart (cc))
-
 -- Request Eleven: a salvage tool "keeps the previous entry where the tick is above 0 and no scheduling instant, and otherwise takes the
 -- lowest numbered candidate, or idle where there is none", which is what the tie choice Lowest asks for.
 module _ (g : Given) (r : Record) where
@@ -354,7 +350,6 @@ Judged g r j verdicts.Met = (f : ℕ) × (standing_at r j ≡ Finished f) × (f 
 Judged g r j (verdicts.Late n true) = (standing_at r j ≡ Finished (deadline_instant g.lists j + n)) × (0 < n)
 Judged g r j (verdicts.Late n false) = (alive r j ≡ true) × (r.tick ≡ deadline_instant g.lists j + n)
 Judged g r j verdicts.Open = (standing_at r j ≡ NotArrived) ⊎ ((alive r j ≡ true) × (r.tick < deadline_instant g.lists j))
-Judged g r j (verdicts.Refused number place) = ⊥
 
 pub verdict_reads : (g : Given) (r : Record) (j : ℕ) (v : Verdict) → verdict g.lists r j ≡ v ↔ Judged g r j v
 unfolding verdict
@@ -386,40 +381,39 @@ verdict_reads g r j v = (λ e. subst J e (holds (standing_at r j) refl), back v)
         rw ((alive_reads r j).0 w.0, le-leb D r.tick (omega (arith, w.1))) (ap (λ (m : ℕ). verdicts.Late m false) (omega (arith, w.1)))
     back verdicts.Open (inl w) = rw w
     back verdicts.Open (inr w) = rw ((alive_reads r j).0 w.0, lt-leb D r.tick w.1)
-    back (verdicts.Refused number place) w = absurd w
 
 -- A verdict is met, late, ended or open exactly where it is that in numbers.
-pub is_met_reads : (v : Verdict) → is_met v ≡ true ↔ verdict_said v ≡ say.met
+pub is_met_reads : (v : Result Verdict Refusal) → verdict_is is_met v ≡ true ↔ verdict_said v ≡ say.met
 unfolding verdict_said
-is_met_reads (verdicts.Refused number place) = (λ e. apart (cc), λ e. apart (cc))
-is_met_reads verdicts.Met = (λ e. refl, λ e. refl)
-is_met_reads (verdicts.Late n is_exact) = (λ e. apart (cc), λ e. apart (cc))
-is_met_reads verdicts.Ended = (λ e. apart (cc), λ e. apart (cc))
-is_met_reads verdicts.Open = (λ e. apart (cc), λ e. apart (cc))
+is_met_reads (Err w) = (λ e. apart (cc), λ e. apart (cc))
+is_met_reads (Ok verdicts.Met) = (λ e. refl, λ e. refl)
+is_met_reads (Ok (verdicts.Late n is_exact)) = (λ e. apart (cc), λ e. apart (cc))
+is_met_reads (Ok verdicts.Ended) = (λ e. apart (cc), λ e. apart (cc))
+is_met_reads (Ok verdicts.Open) = (λ e. apart (cc), λ e. apart (cc))
 
-pub is_late_reads : (v : Verdict) → is_late v ≡ true ↔ ((n : ℕ) × (is_exact : Bool) × (verdict_said v ≡ say.late n is_exact))
+pub is_late_reads : (v : Result Verdict Refusal) → verdict_is is_late v ≡ true ↔ ((n : ℕ) × (is_exact : Bool) × (verdict_said v ≡ say.late n is_exact))
 unfolding verdict_said
-is_late_reads (verdicts.Refused number place) = (λ e. apart (cc), λ w. let e = w.2 in apart (cc))
-is_late_reads verdicts.Met = (λ e. apart (cc), λ w. let e = w.2 in apart (cc))
-is_late_reads (verdicts.Late n is_exact) = (λ e. (n, is_exact, refl), λ w. refl)
-is_late_reads verdicts.Ended = (λ e. apart (cc), λ w. let e = w.2 in apart (cc))
-is_late_reads verdicts.Open = (λ e. apart (cc), λ w. let e = w.2 in apart (cc))
+is_late_reads (Err w) = (λ e. apart (cc), λ w. let e = w.2 in apart (cc))
+is_late_reads (Ok verdicts.Met) = (λ e. apart (cc), λ w. let e = w.2 in apart (cc))
+is_late_reads (Ok (verdicts.Late n is_exact)) = (λ e. (n, is_exact, refl), λ w. refl)
+is_late_reads (Ok verdicts.Ended) = (λ e. apart (cc), λ w. let e = w.2 in apart (cc))
+is_late_reads (Ok verdicts.Open) = (λ e. apart (cc), λ w. let e = w.2 in apart (cc))
 
-pub is_ended_reads : (v : Verdict) → is_ended v ≡ true ↔ verdict_said v ≡ say.ended
+pub is_ended_reads : (v : Result Verdict Refusal) → verdict_is is_ended v ≡ true ↔ verdict_said v ≡ say.ended
 unfolding verdict_said
-is_ended_reads (verdicts.Refused number place) = (λ e. apart (cc), λ e. apart (cc))
-is_ended_reads verdicts.Met = (λ e. apart (cc), λ e. apart (cc))
-is_ended_reads (verdicts.Late n is_exact) = (λ e. apart (cc), λ e. apart (cc))
-is_ended_reads verdicts.Ended = (λ e. refl, λ e. refl)
-is_ended_reads verdicts.Open = (λ e. apart (cc), λ e. apart (cc))
+is_ended_reads (Err w) = (λ e. apart (cc), λ e. apart (cc))
+is_ended_reads (Ok verdicts.Met) = (λ e. apart (cc), λ e. apart (cc))
+is_ended_reads (Ok (verdicts.Late n is_exact)) = (λ e. apart (cc), λ e. apart (cc))
+is_ended_reads (Ok verdicts.Ended) = (λ e. refl, λ e. refl)
+is_ended_reads (Ok verdicts.Open) = (λ e. apart (cc), λ e. apart (cc))
 
-pub is_open_reads : (v : Verdict) → is_open v ≡ true ↔ verdict_said v ≡ say.still_open
+pub is_open_reads : (v : Result Verdict Refusal) → verdict_is is_open v ≡ true ↔ verdict_said v ≡ say.still_open
 unfolding verdict_said
-is_open_reads (verdicts.Refused number place) = (λ e. apart (cc), λ e. apart (cc))
-is_open_reads verdicts.Met = (λ e. apart (cc), λ e. apart (cc))
-is_open_reads (verdicts.Late n is_exact) = (λ e. apart (cc), λ e. apart (cc))
-is_open_reads verdicts.Ended = (λ e. apart (cc), λ e. apart (cc))
-is_open_reads verdicts.Open = (λ e. refl, λ e. refl)
+is_open_reads (Err w) = (λ e. apart (cc), λ e. apart (cc))
+is_open_reads (Ok verdicts.Met) = (λ e. apart (cc), λ e. apart (cc))
+is_open_reads (Ok (verdicts.Late n is_exact)) = (λ e. apart (cc), λ e. apart (cc))
+is_open_reads (Ok verdicts.Ended) = (λ e. apart (cc), λ e. apart (cc))
+is_open_reads (Ok verdicts.Open) = (λ e. refl, λ e. refl)
 
 -- "Missed means late or ended."
 abbrev pub IsLate : Verdict → Type 0
@@ -429,7 +423,6 @@ pub missed_reads : (v : Verdict) → missed v ≡ true ↔ IsLate v ⊎ (v ≡ v
 missed_reads v = (there v, ⊎_elim (λ e. rw e.2) (λ e. rw e))
   where
     there : (v : Verdict) → missed v ≡ true → IsLate v ⊎ (v ≡ verdicts.Ended)
-    there (verdicts.Refused number place) h = apart (cc)
     there verdicts.Met h = apart (cc)
     there (verdicts.Late n is_exact) h = inl (n, is_exact, refl)
     there verdicts.Ended h = inr refl
@@ -486,7 +479,6 @@ module _ (g : Given) (j : ℕ) where
 
 -- for the proofs: against a job that has not missed no witness is accepted
 pub spared : (x : Verdict) → missed x ≡ false → blamed x ≡ witnesses.NotMissed
-spared (verdicts.Refused number place) h = refl
 spared verdicts.Met h = refl
 spared (verdicts.Late by is_exact) h = apart (cc)
 spared verdicts.Ended h = apart (cc)
@@ -499,7 +491,6 @@ Answered g es j (witnesses.Outside i) = (claim g es ≡ Legal) × FirstOutside g
 Answered g es j witnesses.NotMissed = (claim g es ≡ Legal) × Within g j × (missed (verdict g.lists (replayed g es) j) ≡ false)
 Answered g es j (witnesses.AcceptedLate n is_exact) = (claim g es ≡ Legal) × Within g j × (verdict g.lists (replayed g es) j ≡ verdicts.Late n is_exact)
 Answered g es j witnesses.AcceptedEnded = (claim g es ≡ Legal) × Within g j × (verdict g.lists (replayed g es) j ≡ verdicts.Ended)
-Answered g es j (witnesses.Refused number place) = ⊥
 
 pub witness_reads : (g : Given) (es : List ℕ) (j : ℕ) (w : Witness) → witness g es j ≡ w ↔ Answered g es j w
 unfolding witness claim
@@ -517,7 +508,6 @@ witness_reads g es j w = (λ e. subst (λ (x : Witness). Answered g es j x) e (h
     holds : (l : Bool) → is_legal g es ≡ l → (o : Bool) → is_outside g.lists j ≡ o → (x : Verdict) → v ≡ x → Answered g es j (answered l n o first x)
     holds false q o p x k = rw q
     holds true q true p x k = (rw q, (outside_reads g j first).0 (p, refl))
-    holds true q false p (verdicts.Refused number place) k = (rw q, (within_reads g j).0 p, ap missed k)
     holds true q false p verdicts.Met k = (rw q, (within_reads g j).0 p, ap missed k)
     holds true q false p (verdicts.Late by is_exact) k = (rw q, (within_reads g j).0 p, k)
     holds true q false p verdicts.Ended k = (rw q, (within_reads g j).0 p, k)
@@ -534,4 +524,3 @@ witness_reads g es j w = (λ e. subst (λ (x : Witness). Answered g es j x) e (h
     back witnesses.NotMissed a = rw (legal a.0, (within_reads g j).1 a.1) (spared v a.2)
     back (witnesses.AcceptedLate by is_exact) a = rw (legal a.0, (within_reads g j).1 a.1, a.2)
     back witnesses.AcceptedEnded a = rw (legal a.0, (within_reads g j).1 a.1, a.2)
-    back (witnesses.Refused number place) a = absurd a

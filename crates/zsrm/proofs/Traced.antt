@@ -7,6 +7,7 @@ use mathlib.Core.Path.{refl, ◌≡◌}
 use native.Mathlib.Omega.{arith}
 use lib.ListN.{replicate}
 use borrow.Author.Tests.{leb-true, ltb-true}
+use Rattle.std.specs.Prelude.{Ok}
 use Rattle.bits.specs.Below.{count, every, greatest, least, list_from, some, word}
 use Rattle.zsrm.specs.declared.answers.Claim.TheVariants.{Legal, NotLegal}
 use Rattle.zsrm.specs.declared.answers.Mended.TheVariants.{Changed, Whole}
@@ -17,7 +18,7 @@ use Rattle.zsrm.specs.declared.tie.Tie.{Tie}
 use Rattle.zsrm.specs.declared.tie.Tie.TheVariants.{Lowest, Stay}
 use Rattle.zsrm.specs.Answers.{check_mend, check_verdict, check_witness, claim_answer, check_go_on, check_step, go_on_schedule, mend_answer}
 use Rattle.zsrm.specs.Answers.{mend_schedule, ran, run_answer, run_schedule, step_answer, stepped, verdict_answer, witness_answer}
-use Rattle.tables.specs.declared.answers.Outcome.TheVariants.{Done}
+use Rattle.tables.specs.Outcomes.{Done}
 use Rattle.tables.specs.Refusals.{unless, ascending, before, check10, check13, check2, check3, check4, check5, check6}
 use Rattle.tables.specs.Refusals.{check7, check8, check9, check_jobs, check_lists, check_tasks, outside, preceding, refuse, check_schedule}
 use Rattle.zsrm.specs.Given.{Given, given}
@@ -67,11 +68,11 @@ ties_differ SE = (refl, refl, refl)
 -- So after a legal schedule Lowest need not go on legally. Job 1 alone is legal at tick 0; from the record at its end Lowest goes on with
 -- 00011, and 100011 is not legal at 1, which is no scheduling instant. Stay goes on with 11000, and 111000 is legal.
 pub lowest_goes_on_illegally : (mode : Mode)
-    → (claim_answer (given mode equals both) 1 (1 ∷ []) ≡ Legal)
+    → (claim_answer (given mode equals both) 1 (1 ∷ []) ≡ Ok Legal)
     × (go_on_schedule (given mode equals both) Lowest (replayed (given mode equals both) (1 ∷ [])) 5 (replicate 5 0) ≡ 0 ∷ 0 ∷ 0 ∷ 1 ∷ 1 ∷ [])
-    × (claim_answer (given mode equals both) 6 (1 ∷ 0 ∷ 0 ∷ 0 ∷ 1 ∷ 1 ∷ []) ≡ NotLegal 1)
+    × (claim_answer (given mode equals both) 6 (1 ∷ 0 ∷ 0 ∷ 0 ∷ 1 ∷ 1 ∷ []) ≡ Ok (NotLegal 1))
     × (go_on_schedule (given mode equals both) Stay (replayed (given mode equals both) (1 ∷ [])) 5 (replicate 5 0) ≡ 1 ∷ 1 ∷ 0 ∷ 0 ∷ 0 ∷ [])
-    × (claim_answer (given mode equals both) 6 (1 ∷ 1 ∷ 1 ∷ 0 ∷ 0 ∷ 0 ∷ []) ≡ Legal)
+    × (claim_answer (given mode equals both) 6 (1 ∷ 1 ∷ 1 ∷ 0 ∷ 0 ∷ 0 ∷ []) ≡ Ok Legal)
 unfolding some every least greatest list_from task_count period deadline nominal overload criticality priority offset job_count task_of arrival execution
     job_criticality job_priority job_nominal zero_slack_instant refuse before ascending outside check2 check3 check4 check_tasks check5 preceding check6
     check7 check8 check_jobs check_lists check9 check10 check11 place_at done_at suspended_at waited_at standing_at arriving arrived opening fresh_place fresh
@@ -87,13 +88,13 @@ lowest_goes_on_illegally SE = (refl, refl, refl, refl, refl)
 -- entries differ. All of it one tick late: at 0 the lowest number is taken and goes on, whatever the claim has later, and 5 entries differ.
 -- And a legal claim.
 pub mends : (mode : Mode)
-    → (mend_answer (given mode equals both) 6 (0 ∷ 0 ∷ idle ∷ 1 ∷ 1 ∷ 1 ∷ []) (replicate 6 0) ≡ Changed 2 1)
+    → (mend_answer (given mode equals both) 6 (0 ∷ 0 ∷ idle ∷ 1 ∷ 1 ∷ 1 ∷ []) (replicate 6 0) ≡ Ok (Changed 2 1))
     × (mend_schedule (given mode equals both) 6 (0 ∷ 0 ∷ idle ∷ 1 ∷ 1 ∷ 1 ∷ []) (replicate 6 0) ≡ 0 ∷ 0 ∷ 0 ∷ 1 ∷ 1 ∷ 1 ∷ [])
-    × (mend_answer (given mode equals both) 6 (1 ∷ 1 ∷ idle ∷ 1 ∷ 0 ∷ 0 ∷ []) (replicate 6 0) ≡ Changed 2 2)
+    × (mend_answer (given mode equals both) 6 (1 ∷ 1 ∷ idle ∷ 1 ∷ 0 ∷ 0 ∷ []) (replicate 6 0) ≡ Ok (Changed 2 2))
     × (mend_schedule (given mode equals both) 6 (1 ∷ 1 ∷ idle ∷ 1 ∷ 0 ∷ 0 ∷ []) (replicate 6 0) ≡ 1 ∷ 1 ∷ 1 ∷ 0 ∷ 0 ∷ 0 ∷ [])
-    × (mend_answer (given mode equals both) 6 (idle ∷ 1 ∷ 1 ∷ 1 ∷ 0 ∷ 0 ∷ []) (replicate 6 0) ≡ Changed 0 5)
+    × (mend_answer (given mode equals both) 6 (idle ∷ 1 ∷ 1 ∷ 1 ∷ 0 ∷ 0 ∷ []) (replicate 6 0) ≡ Ok (Changed 0 5))
     × (mend_schedule (given mode equals both) 6 (idle ∷ 1 ∷ 1 ∷ 1 ∷ 0 ∷ 0 ∷ []) (replicate 6 0) ≡ 0 ∷ 0 ∷ 0 ∷ 1 ∷ 1 ∷ 1 ∷ [])
-    × (mend_answer (given mode equals both) 6 (1 ∷ 1 ∷ 1 ∷ 0 ∷ 0 ∷ 0 ∷ []) (replicate 6 0) ≡ Whole)
+    × (mend_answer (given mode equals both) 6 (1 ∷ 1 ∷ 1 ∷ 0 ∷ 0 ∷ 0 ∷ []) (replicate 6 0) ≡ Ok Whole)
     × (mend_schedule (given mode equals both) 6 (1 ∷ 1 ∷ 1 ∷ 0 ∷ 0 ∷ 0 ∷ []) (replicate 6 0) ≡ 1 ∷ 1 ∷ 1 ∷ 0 ∷ 0 ∷ 0 ∷ [])
 unfolding some every count least greatest list_from task_count period deadline nominal overload criticality priority offset job_count task_of arrival
     execution job_criticality job_priority job_nominal zero_slack_instant refuse before ascending outside check2 check3 check4 check_tasks check5 preceding

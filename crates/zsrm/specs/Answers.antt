@@ -1,16 +1,15 @@
 -- What each entry point answers, refusals first, and what the caller's schedule list holds afterwards. An entry point makes only the
 -- checks for what it is given.
-use Rattle.std.specs.Prelude.{ℕ, zero, suc, List, get_or, length}
+use Rattle.std.specs.Prelude.{ℕ, zero, suc, List, get_or, length, Result, Ok, Err}
 use Rattle.zsrm.specs.declared.record.Record.{Record}
 use Rattle.zsrm.specs.declared.tie.Tie.{Tie}
-use Rattle.tables.specs.declared.answers.Outcome.{Outcome}
-use Rattle.tables.specs.declared.answers.Outcome.TheVariants.{Done, Refused}
+use Rattle.tables.specs.Outcomes.{Outcome, Done, Refused}
 use Rattle.zsrm.specs.declared.answers.Ran.{Ran}
 use Rattle.zsrm.specs.declared.answers.Stepped.{Stepped}
 use Rattle.zsrm.specs.declared.answers.Claim.{Claim}
 use Rattle.zsrm.specs.declared.answers.Replayed.{Replayed}
 use Rattle.zsrm.specs.declared.answers.Mended.{Mended}
-use Rattle.zsrm.specs.declared.answers.Judged.{Judged}
+use Rattle.tables.specs.declared.answers.Refusal.{Refusal}
 use Rattle.zsrm.specs.declared.answers.Verdict.{Verdict}
 use Rattle.zsrm.specs.declared.answers.Verdicts.{Verdicts}
 use Rattle.zsrm.specs.declared.answers.Witness.{Witness}
@@ -25,9 +24,7 @@ use Rattle.zsrm.specs.Mend.{mend, mended}
 use Rattle.zsrm.specs.Verdict.{Part, empty_part, part, verdict, witness}
 use Rattle.tables.specs.Tables.{Lists, lists}
 use Rattle.zsrm.specs.declared.answers.Claim.TheVariants as claims
-use Rattle.zsrm.specs.declared.answers.Mended.TheVariants as mends
 use Rattle.zsrm.specs.declared.answers.Verdict.TheVariants as verdicts
-use Rattle.zsrm.specs.declared.answers.Witness.TheVariants as witnesses
 
 -- A refused answer's record is blank.
 unfoldable pub ran : Outcome → Record → Ran
@@ -50,15 +47,15 @@ stepped g tie r =
       ended = ended_word g r (choice g tie r);
     }
 
--- One of all verdicts, as an array's element is read.
-abbrev pub verdict_of : Verdicts → ℕ → Verdict
-verdict_of all j = (get_or all.of j (record { verdict = verdicts.Refused 0 0 })).verdict
+-- One of all verdicts, as an array's element is read; there are 64.
+abbrev pub verdict_of : Verdicts → ℕ → Result Verdict Refusal
+verdict_of all j = get_or all.of j (Ok verdicts.Met)
 
 -- Of a schedule that the claim check answers legal its record, else the blank one.
-abbrev pub if_legal : Claim → Record → Record
-if_legal (claims.Refused number place) r = blank
-if_legal claims.Legal r = r
-if_legal (claims.NotLegal t) r = blank
+abbrev pub if_legal : Result Claim Refusal → Record → Record
+if_legal (Err refusal) r = blank
+if_legal (Ok claims.Legal) r = r
+if_legal (Ok (claims.NotLegal t)) r = blank
 
 -- The fresh record, whatever record the method is called on.
 unfoldable pub fresh_answer : List ℕ → List ℕ → Ran
@@ -114,35 +111,32 @@ module _ (g : Given) where
   unfoldable pub go_on_schedule : Tie → Record → ℕ → List ℕ → List ℕ
   go_on_schedule tie r ticks schedule = unless (check_go_on g r ticks (length schedule)) (λ number place. schedule) (entries_by g (choice g tie) r ticks)
 
-  unfoldable pub claim_answer : ℕ → List ℕ → Claim
-  claim_answer horizon schedule = unless (check_schedule g.lists horizon (length schedule)) claims.Refused (claim g schedule)
+  unfoldable pub claim_answer : ℕ → List ℕ → Result Claim Refusal
+  claim_answer horizon schedule = unless (check_schedule g.lists horizon (length schedule)) Refused (Ok (claim g schedule))
 
   -- the claim check's own answer, and the record at the schedule's end where it is legal
   unfoldable pub replay_answer : ℕ → List ℕ → Replayed
   replay_answer horizon schedule =
       record { claim = claim_answer horizon schedule; «record» = if_legal (claim_answer horizon schedule) (replayed g schedule) }
 
-  unfoldable pub mend_answer : ℕ → List ℕ → List ℕ → Mended
-  mend_answer horizon schedule lent = unless (check_mend g.lists horizon (length schedule) (length lent)) mends.Refused (mend g schedule)
+  unfoldable pub mend_answer : ℕ → List ℕ → List ℕ → Result Mended Refusal
+  mend_answer horizon schedule lent = unless (check_mend g.lists horizon (length schedule) (length lent)) Refused (Ok (mend g schedule))
 
   -- what the second list, which is lent, holds afterwards: the mended schedule, or what it held
   unfoldable pub mend_schedule : ℕ → List ℕ → List ℕ → List ℕ
   mend_schedule horizon schedule lent =
       unless (check_mend g.lists horizon (length schedule) (length lent)) (λ number place. lent) (mended g schedule)
 
-  unfoldable pub verdict_answer : Record → ℕ → Verdict
-  verdict_answer r j = unless (check_verdict g r j) verdicts.Refused (verdict g.lists r j)
+  unfoldable pub verdict_answer : Record → ℕ → Result Verdict Refusal
+  verdict_answer r j = unless (check_verdict g r j) Refused (Ok (verdict g.lists r j))
 
   -- all verdicts at once: what the lists and the record are refused with, and for each job number below 64, in the list or not, what
   -- `verdict` answers
-  unfoldable pub judged_at : Record → ℕ → Judged
-  judged_at r j = record { verdict = verdict_answer r j }
-
   unfoldable pub verdicts_answer : Record → Verdicts
-  verdicts_answer r = record { outcome = check_verdicts g r; of = list_from 0 64 (judged_at r) }
+  verdicts_answer r = record { outcome = check_verdicts g r; of = list_from 0 64 (verdict_answer r) }
 
-  unfoldable pub witness_answer : ℕ → List ℕ → ℕ → Witness
-  witness_answer horizon schedule j = unless (check_witness g.lists horizon (length schedule) j) witnesses.Refused (witness g schedule j)
+  unfoldable pub witness_answer : ℕ → List ℕ → ℕ → Result Witness Refusal
+  witness_answer horizon schedule j = unless (check_witness g.lists horizon (length schedule) j) Refused (Ok (witness g schedule j))
 
   -- refused input and a job not in the list give the empty part
   unfoldable pub response_answer : ℕ → List ℕ → ℕ → Part

@@ -1,12 +1,12 @@
 -- Document 01, the calls from C: every list is a run of bytes, each number little-endian in its own width, four bytes for tables and
 -- jobs, two for schedules; a result is one number. `numbers_in` of the crate `tables` are the numbers that bytes spell, `bytes_of` the bytes
 -- of numbers, each by the width.
-use Rattle.std.specs.Prelude.{ℕ, ◌+◌, ◌*◌, ◌/◌, cond, List, length, eqb, ltb}
+use Rattle.std.specs.Prelude.{ℕ, ◌+◌, ◌*◌, ◌/◌, cond, List, length, eqb, ltb, Result, Ok, Err}
 use Rattle.zsrm.specs.declared.mode.Mode.{Mode}
 use Rattle.zsrm.specs.declared.mode.Mode.TheVariants.{S, SE}
 use Rattle.zsrm.specs.declared.tie.Tie.TheVariants.{Stay}
-use Rattle.tables.specs.declared.answers.Outcome.{Outcome}
-use Rattle.tables.specs.declared.answers.Outcome.TheVariants.{Done, Refused}
+use Rattle.tables.specs.Outcomes.{Outcome, Done, Refused}
+use Rattle.tables.specs.declared.answers.Refusal.{Refusal}
 use Rattle.zsrm.specs.declared.answers.Claim.{Claim}
 use Rattle.zsrm.specs.Given.{Given, given}
 use Rattle.tables.specs.Refusals.{refuse, before, check9, check10, unless}
@@ -35,13 +35,17 @@ check_bytes mode tasks jobs horizon count =
 -- 0 for done, or a refusal's number plus 256 times its place
 unfoldable pub packed_outcome : Outcome → ℕ
 packed_outcome Done = 0
-packed_outcome (Refused number place) = number + 256 * place
+packed_outcome (Err refusal) = refusal.number + 256 * refusal.place
 
--- the same for a refusal, 0 for legal, and 65,536 plus t for "not legal at t"
+-- 0 for legal, and 65,536 plus t for "not legal at t"
 unfoldable pub packed_claim : Claim → ℕ
-packed_claim (claims.Refused number place) = number + 256 * place
 packed_claim claims.Legal = 0
 packed_claim (claims.NotLegal t) = 65536 + t
+
+-- and for a refusal the same as above
+unfoldable pub packed_answer : Result Claim Refusal → ℕ
+packed_answer (Err refusal) = refusal.number + 256 * refusal.place
+packed_answer (Ok c) = packed_claim c
 
 module _ (mode : ℕ) (tasks jobs : List ℕ) (horizon : ℕ) (schedule : List ℕ) where
   unfoldable pub run_result : ℕ
@@ -55,5 +59,5 @@ module _ (mode : ℕ) (tasks jobs : List ℕ) (horizon : ℕ) (schedule : List �
 
   unfoldable pub claim_result : ℕ
   claim_result =
-      packed_claim
-      (unless (check_bytes mode tasks jobs horizon (length schedule)) claims.Refused (claim (given_bytes mode tasks jobs) (numbers_in 2 schedule)))
+      packed_answer
+      (unless (check_bytes mode tasks jobs horizon (length schedule)) Refused (Ok (claim (given_bytes mode tasks jobs) (numbers_in 2 schedule))))

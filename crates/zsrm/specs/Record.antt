@@ -7,7 +7,7 @@ use Rattle.zsrm.specs.declared.record.Standing.TheVariants.{NotArrived, Unfinish
 use Rattle.zsrm.specs.declared.record.Place.{Place}
 use Rattle.zsrm.specs.declared.record.Record.{Record}
 use Rattle.zsrm.specs.Given.{Given, is_se}
-use Rattle.tables.specs.declared.answers.Outcome.{Outcome}
+use Rattle.tables.specs.Outcomes.{Outcome}
 use Rattle.tables.specs.Refusals.{refuse}
 use Rattle.tables.specs.Tables.{idle, job_count, arrival, execution}
 

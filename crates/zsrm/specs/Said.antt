@@ -3,7 +3,8 @@
 -- every other is one.
 -- Document 01 has the numbers of "legal" and "not legal at t", the others are ours. Within one kind of answer equal numbers are equal
 -- answers (proofs/Laws/Said).
-use Rattle.std.specs.Prelude.{ℕ, ◌+◌, Bool, true, false, List, [], ◌∷◌}
+use Rattle.std.specs.Prelude.{ℕ, ◌+◌, Bool, true, false, List, [], ◌∷◌, Result, Ok, Err}
+use Rattle.tables.specs.declared.answers.Refusal.{Refusal}
 use Rattle.zsrm.specs.declared.record.Standing.{Standing}
 use Rattle.zsrm.specs.declared.answers.Claim.{Claim}
 use Rattle.zsrm.specs.declared.answers.Mended.{Mended}
@@ -23,10 +24,10 @@ legal = 0 ∷ []
 abbrev pub not_legal : ℕ → List ℕ
 not_legal t = (65536 + t) ∷ []
 
-unfoldable pub claim_said : Claim → List ℕ
-claim_said (claims.Refused number place) = refused number place
-claim_said claims.Legal = legal
-claim_said (claims.NotLegal t) = not_legal t
+unfoldable pub claim_said : Result Claim Refusal → List ℕ
+claim_said (Err refusal) = refused refusal.number refusal.place
+claim_said (Ok claims.Legal) = legal
+claim_said (Ok (claims.NotLegal t)) = not_legal t
 
 -- of a claim that is mended; changed is three numbers: the first changed tick, how many entries differ, and 0
 abbrev pub whole : List ℕ
@@ -35,10 +36,10 @@ whole = 0 ∷ []
 abbrev pub changed : ℕ → ℕ → List ℕ
 changed first differing = first ∷ differing ∷ 0 ∷ []
 
-unfoldable pub mended_said : Mended → List ℕ
-mended_said (mends.Refused number place) = refused number place
-mended_said mends.Whole = whole
-mended_said (mends.Changed first differing) = changed first differing
+unfoldable pub mended_said : Result Mended Refusal → List ℕ
+mended_said (Err refusal) = refused refusal.number refusal.place
+mended_said (Ok mends.Whole) = whole
+mended_said (Ok (mends.Changed first differing)) = changed first differing
 
 -- exact or "at least"
 abbrev pub flag : Bool → ℕ
@@ -58,12 +59,12 @@ ended = 2 ∷ []
 abbrev pub still_open : List ℕ
 still_open = 3 ∷ []
 
-unfoldable pub verdict_said : Verdict → List ℕ
-verdict_said (verdicts.Refused number place) = refused number place
-verdict_said verdicts.Met = met
-verdict_said (verdicts.Late by is_exact) = late by is_exact
-verdict_said verdicts.Ended = ended
-verdict_said verdicts.Open = still_open
+unfoldable pub verdict_said : Result Verdict Refusal → List ℕ
+verdict_said (Err refusal) = refused refusal.number refusal.place
+verdict_said (Ok verdicts.Met) = met
+verdict_said (Ok (verdicts.Late by is_exact)) = late by is_exact
+verdict_said (Ok verdicts.Ended) = ended
+verdict_said (Ok verdicts.Open) = still_open
 
 -- of a witness; outside the assumption it is three numbers, the second the job named; accepted against a late job it is three, too
 abbrev pub outside_assumption : ℕ → List ℕ
@@ -78,13 +79,13 @@ accepted_ended = 2 ∷ []
 abbrev pub not_missed : List ℕ
 not_missed = 1 ∷ []
 
-unfoldable pub witness_said : Witness → List ℕ
-witness_said (witnesses.Refused number place) = refused number place
-witness_said (witnesses.NotLegal t) = not_legal t
-witness_said (witnesses.Outside i) = outside_assumption i
-witness_said witnesses.NotMissed = not_missed
-witness_said (witnesses.AcceptedLate by is_exact) = accepted_late by is_exact
-witness_said witnesses.AcceptedEnded = accepted_ended
+unfoldable pub witness_said : Result Witness Refusal → List ℕ
+witness_said (Err refusal) = refused refusal.number refusal.place
+witness_said (Ok (witnesses.NotLegal t)) = not_legal t
+witness_said (Ok (witnesses.Outside i)) = outside_assumption i
+witness_said (Ok witnesses.NotMissed) = not_missed
+witness_said (Ok (witnesses.AcceptedLate by is_exact)) = accepted_late by is_exact
+witness_said (Ok witnesses.AcceptedEnded) = accepted_ended
 
 -- The standings inside the records that runs, steps and fresh records answer: a kind and, where there is one, the instant or tick.
 abbrev pub not_arrived : List ℕ

@@ -1,14 +1,14 @@
 -- Document 01, "Traced schedules": the cases marked P, case 11, and three of ours, as one table. What a case says is set beside what the
 -- entry points answer.
-use Rattle.std.specs.Prelude.{ℕ, true, false, List, [], ◌∷◌, ◌++◌, map, replicate}
+use Rattle.std.specs.Prelude.{ℕ, true, false, List, [], ◌∷◌, ◌++◌, map, replicate, Result, Ok}
 use Rattle.bits.specs.Below.{list_from}
 use Rattle.zsrm.specs.declared.mode.Mode.{Mode}
 use Rattle.zsrm.specs.declared.mode.Mode.TheVariants.{S, SE}
 use Rattle.zsrm.specs.declared.record.Standing.{Standing}
 use Rattle.zsrm.specs.declared.record.Standing.TheVariants.{NotArrived, Unfinished, Finished, Ended}
 use Rattle.zsrm.specs.declared.tie.Tie.{Tie}
-use Rattle.tables.specs.declared.answers.Outcome.{Outcome}
-use Rattle.tables.specs.declared.answers.Outcome.TheVariants.{Done}
+use Rattle.tables.specs.Outcomes.{Outcome, Done}
+use Rattle.tables.specs.declared.answers.Refusal.{Refusal}
 use Rattle.zsrm.specs.declared.answers.Claim.{Claim}
 use Rattle.zsrm.specs.declared.answers.Claim.TheVariants.{Legal, NotLegal}
 use Rattle.zsrm.specs.declared.answers.Verdict.{Verdict}
@@ -26,10 +26,10 @@ pub record Trace : Type 0 where
   pub outcome : Outcome
   pub entries : List ℕ
   pub standings : List Standing
-  pub verdicts : List Verdict
-  pub own : Claim
-  pub witnesses : List Witness
-  pub further : List Claim
+  pub verdicts : List (Result Verdict Refusal)
+  pub own : Result Claim Refusal
+  pub witnesses : List (Result Witness Refusal)
+  pub further : List (Result Claim Refusal)
 
 pub record Case : Type 0 where
   pub setting : Given
@@ -82,7 +82,7 @@ on_fig1 m jobs h es ss vs ws =
       setting = given m fig1 jobs;
       horizon = h;
       claims = [];
-      trace = record { outcome = Done; entries = es; standings = ss; verdicts = vs; own = Legal; witnesses = ws; further = [] };
+      trace = record { outcome = Done; entries = es; standings = ss; verdicts = map (λ v. Ok v) vs; own = Ok Legal; witnesses = map (λ w. Ok w) ws; further = [] };
     }
 
 -- case 10: the run is 000111, the claim 111000 legal, 010101 not legal at 1
@@ -97,10 +97,10 @@ on_equals m =
             outcome = Done;
             entries = 0 ∷ 0 ∷ 0 ∷ 1 ∷ 1 ∷ 1 ∷ [];
             standings = Finished 3 ∷ Finished 6 ∷ [];
-            verdicts = Met ∷ Met ∷ [];
-            own = Legal;
-            witnesses = NotMissed ∷ NotMissed ∷ [];
-            further = Legal ∷ NotLegal 1 ∷ [];
+            verdicts = Ok Met ∷ Ok Met ∷ [];
+            own = Ok Legal;
+            witnesses = Ok NotMissed ∷ Ok NotMissed ∷ [];
+            further = Ok Legal ∷ Ok (NotLegal 1) ∷ [];
           };
     }
 
@@ -119,9 +119,9 @@ nested =
             outcome = Done;
             entries = 0 ∷ 0 ∷ 1 ∷ 1 ∷ 2 ∷ 2 ∷ 2 ∷ 1 ∷ 1 ∷ 0 ∷ 0 ∷ idle ∷ [];
             standings = Finished 11 ∷ Finished 9 ∷ Finished 7 ∷ [];
-            verdicts = Met ∷ Met ∷ Met ∷ [];
-            own = Legal;
-            witnesses = NotMissed ∷ NotMissed ∷ NotMissed ∷ [];
+            verdicts = Ok Met ∷ Ok Met ∷ Ok Met ∷ [];
+            own = Ok Legal;
+            witnesses = Ok NotMissed ∷ Ok NotMissed ∷ Ok NotMissed ∷ [];
             further = [];
           };
     }
@@ -145,9 +145,9 @@ peers =
             outcome = Done;
             entries = 0 ∷ 0 ∷ 0 ∷ 0 ∷ 0 ∷ 0 ∷ 1 ∷ 1 ∷ 1 ∷ 1 ∷ 1 ∷ 1 ∷ [];
             standings = Finished 6 ∷ Finished 12 ∷ [];
-            verdicts = Met ∷ Late 2 true ∷ [];
-            own = Legal;
-            witnesses = NotMissed ∷ AcceptedLate 2 true ∷ [];
+            verdicts = Ok Met ∷ Ok (Late 2 true) ∷ [];
+            own = Ok Legal;
+            witnesses = Ok NotMissed ∷ Ok (AcceptedLate 2 true) ∷ [];
             further = [];
           };
     }
@@ -158,7 +158,7 @@ cases =
     on_fig1 S (list_a 5) 16 (0 ∷ 0 ∷ 0 ∷ 0 ∷ 1 ∷ 1 ∷ 1 ∷ 1 ∷ 2 ∷ 2 ∷ 1 ∷ 2 ∷ 2 ∷ idle ∷ idle ∷ idle ∷ [])
     (Finished 4 ∷ Finished 11 ∷ Finished 13 ∷ []) (Met ∷ Met ∷ Met ∷ []) (NotMissed ∷ NotMissed ∷ NotMissed ∷ [])
     ∷ on_fig1 S (list_a 10) 18 (0 ∷ 0 ∷ 0 ∷ 0 ∷ 1 ∷ 1 ∷ 1 ∷ 1 ∷ 2 ∷ 2 ∷ 1 ∷ 1 ∷ 1 ∷ 1 ∷ 1 ∷ 1 ∷ 2 ∷ 2 ∷ [])
-    (Finished 4 ∷ Finished 16 ∷ Finished 18 ∷ []) (Met ∷ Met ∷ Late 2 true ∷ []) (Outside 1 ∷ NotMissed ∷ Outside 1 ∷ [])
+    (Finished 4 ∷ Finished 16 ∷ Finished 18 ∷ []) (Met ∷ Met ∷ (Late 2 true) ∷ []) (Outside 1 ∷ NotMissed ∷ Outside 1 ∷ [])
     ∷ on_fig1 S (list_a 10) 16 (0 ∷ 0 ∷ 0 ∷ 0 ∷ 1 ∷ 1 ∷ 1 ∷ 1 ∷ 2 ∷ 2 ∷ 1 ∷ 1 ∷ 1 ∷ 1 ∷ 1 ∷ 1 ∷ [])
     (Finished 4 ∷ Finished 16 ∷ Unfinished ∷ []) (Met ∷ Met ∷ Late 0 false ∷ []) (Outside 1 ∷ NotMissed ∷ Outside 1 ∷ [])
     ∷ on_fig1 S (list_a 10) 15 (0 ∷ 0 ∷ 0 ∷ 0 ∷ 1 ∷ 1 ∷ 1 ∷ 1 ∷ 2 ∷ 2 ∷ 1 ∷ 1 ∷ 1 ∷ 1 ∷ 1 ∷ [])

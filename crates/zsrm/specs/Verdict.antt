@@ -1,9 +1,10 @@
 -- Document 01, verdicts, witnesses, and the part of the schedule that is shown.
-use Rattle.std.specs.Prelude.{ℕ, ◌+◌, ◌*◌, ◌-◌, Bool, true, false, ◌&&◌, cond, List, [], ◌≡◌, take, drop, leb, ltb}
+use Rattle.std.specs.Prelude.{ℕ, ◌+◌, ◌*◌, ◌-◌, Bool, true, false, ◌&&◌, cond, List, [], ◌≡◌, take, drop, leb, ltb, Result, Ok, Err}
 use Rattle.bits.specs.Below.{least}
 use Rattle.zsrm.specs.declared.record.Standing.{Standing}
 use Rattle.zsrm.specs.declared.record.Standing.TheVariants.{NotArrived, Unfinished, Finished, Ended}
 use Rattle.zsrm.specs.declared.record.Record.{Record}
+use Rattle.tables.specs.declared.answers.Refusal.{Refusal}
 use Rattle.zsrm.specs.declared.answers.Verdict.{Verdict}
 use Rattle.zsrm.specs.declared.answers.Witness.{Witness}
 use Rattle.zsrm.specs.Given.{Given}
@@ -30,7 +31,6 @@ verdict l r j = judged (deadline_instant l j) r.tick (standing_at r j)
 
 -- The verdict on a job is met ..
 abbrev pub is_met : Verdict → Bool
-is_met (verdicts.Refused number place) = false
 is_met verdicts.Met = true
 is_met (verdicts.Late by is_exact) = false
 is_met verdicts.Ended = false
@@ -38,7 +38,6 @@ is_met verdicts.Open = false
 
 -- .. late ..
 abbrev pub is_late : Verdict → Bool
-is_late (verdicts.Refused number place) = false
 is_late verdicts.Met = false
 is_late (verdicts.Late by is_exact) = true
 is_late verdicts.Ended = false
@@ -46,7 +45,6 @@ is_late verdicts.Open = false
 
 -- .. ended ..
 abbrev pub is_ended : Verdict → Bool
-is_ended (verdicts.Refused number place) = false
 is_ended verdicts.Met = false
 is_ended (verdicts.Late by is_exact) = false
 is_ended verdicts.Ended = true
@@ -54,7 +52,6 @@ is_ended verdicts.Open = false
 
 -- .. or open.
 abbrev pub is_open : Verdict → Bool
-is_open (verdicts.Refused number place) = false
 is_open verdicts.Met = false
 is_open (verdicts.Late by is_exact) = false
 is_open verdicts.Ended = false
@@ -62,15 +59,18 @@ is_open verdicts.Open = true
 
 -- Missed means late or ended.
 abbrev pub missed : Verdict → Bool
-missed (verdicts.Refused number place) = false
 missed verdicts.Met = false
 missed (verdicts.Late by is_exact) = true
 missed verdicts.Ended = true
 missed verdicts.Open = false
 
+-- An answer is a verdict that passes a test; a refusal is none.
+abbrev pub verdict_is : (Verdict → Bool) → Result Verdict Refusal → Bool
+verdict_is test (Err refusal) = false
+verdict_is test (Ok v) = test v
+
 -- Against a job that missed a witness is accepted, and for a late job carries by how much and whether that is exact.
 abbrev pub blamed : Verdict → Witness
-blamed (verdicts.Refused number place) = witnesses.NotMissed
 blamed verdicts.Met = witnesses.NotMissed
 blamed (verdicts.Late by is_exact) = witnesses.AcceptedLate by is_exact
 blamed verdicts.Ended = witnesses.AcceptedEnded

@@ -8,7 +8,7 @@ pub(crate) fn number2(bytes: &[u8], i: usize) -> u16
     ensures { result ≡ number_at 2 bytes.now (i * 2) }
 {
     let at = i * 2;
-    (bytes[at] as u16) + (bytes[at + 1] as u16) * 256
+    u16::from_le_bytes([bytes[at], bytes[at + 1]])
 }
 
 // An entry written at its place, as two bytes.
@@ -17,6 +17,5 @@ pub(crate) fn put2(bytes: &mut [u8], i: usize, entry: u16)
     ensures { bytes.new ≡ put_at 2 bytes.old (i * 2) entry }
 {
     let at = i * 2;
-    bytes[at] = (entry % 256) as u8;
-    bytes[at + 1] = (entry / 256) as u8;
+    bytes[at..at + 2].copy_from_slice(&entry.to_le_bytes());
 }

@@ -6,14 +6,14 @@ ghost use Rattle.zsrm.specs.Bytes.{run_result, run_bytes, claim_result};
 use crate::c_claim::claim_bytes;
 use crate::c_run::run_bytes;
 use crate::reading::prepare;
-use tables::Outcome;
+use tables::Refusal;
 
 // A refusal's result: its number plus 256 times its place.
-fn packed(number: u32, place: u32) -> u32
-    requires { (number ≤ 13) × (place ≤ 64) }
-    ensures { result ≡ number + 256 * place }
+fn packed(refusal: Refusal) -> u32
+    requires { (refusal.number ≤ 13) × (refusal.place ≤ 64) }
+    ensures { result ≡ refusal.number + 256 * refusal.place }
 {
-    number + place * 256
+    refusal.number + refusal.place * 256
 }
 
 // Our run, from C: 0 for done, or a refusal's number plus 256 times its place, the schedule's bytes then being as they were.
@@ -33,11 +33,11 @@ pub fn zsrm_run(mode: u32, tasks: &[u8], jobs: &[u8], horizon: u32, schedule: &m
         &mut masks,
     );
     match found {
-        Outcome::Done => {
+        Ok(()) => {
             run_bytes(mode, tasks, jobs, &g, &masks, schedule);
             0
         }
-        Outcome::Refused(number, place) => packed(number, place),
+        Err(refusal) => packed(refusal),
     }
 }
 
@@ -57,7 +57,7 @@ pub fn zsrm_claim(mode: u32, tasks: &[u8], jobs: &[u8], horizon: u32, schedule: 
         &mut masks,
     );
     match found {
-        Outcome::Done => claim_bytes(mode, tasks, jobs, &masks, &g, schedule),
-        Outcome::Refused(number, at) => packed(number, at),
+        Ok(()) => claim_bytes(mode, tasks, jobs, &masks, &g, schedule),
+        Err(refused) => packed(refused),
     }
 }

@@ -10,7 +10,8 @@ ghost use Rattle.zsrm.specs.Code.Underway.{repeated};
 use crate::bytes::number2;
 use crate::calls::{eligible_of, reach_of, run_on};
 use crate::compact::{Going, at_tick};
-use crate::masks::may_stand;
+use crate::gather::Numbers;
+use crate::masks::{Masks, may_stand};
 
 // Whether some of the k entries from t on is another than this. The differences are joined and the loop has no other end, so that it is
 // compiled to take many at once.
@@ -19,13 +20,11 @@ fn differs(schedule: &[u8], t: usize, k: usize, entry: u16) -> bool
     ensures { result ≡ others_in (numbers_in 2 schedule.now) t entry k }
 {
     let mut found: u16 = 0;
-    let mut i: usize = 0;
-    while i < k {
+    for i in 0..k {
         let its = number2(schedule, t + i);
-        found = found | (its ^ entry);
-        i += 1;
+        found |= its ^ entry;
     }
-    !(found == 0)
+    found != 0
 }
 
 // How many of them are this, up to the first other one.
@@ -33,13 +32,11 @@ fn same_until(schedule: &[u8], t: usize, k: usize, entry: u16) -> usize
     requires { (t + k) * 2 ≤ length schedule.now }
     ensures { result ≡ repeated (numbers_in 2 schedule.now) t entry k }
 {
-    let mut many: usize = 0;
-    while many < k {
+    for many in 0..k {
         let its = number2(schedule, t + many);
         if its != entry {
             return many;
         }
-        many += 1;
     }
     k
 }
@@ -49,8 +46,8 @@ pub(crate) fn claim_bytes(
     mode: u32,
     tasks: &[u8],
     jobs: &[u8],
-    masks: &[u64],
-    g: &[u16],
+    masks: &Masks,
+    g: &Numbers,
     schedule: &[u8],
 ) -> u32
     requires call { Call (given_bytes mode tasks.now jobs.now) g.now masks.now (length jobs.now / 12) (eqb mode 1) }
@@ -67,6 +64,7 @@ pub(crate) fn claim_bytes(
         soon: 65535,
     };
     let mut t: usize = 0;
+    // a turn takes a whole stretch of ticks, as many as nothing happens in, so t goes over no range
     while t < ticks {
         let seen = at_tick(t as u32, going, n, g);
         let entry = number2(schedule, t);
@@ -80,9 +78,7 @@ pub(crate) fn claim_bytes(
             }
             going = Going {
                 alive: ran.alive,
-                early: seen.early,
-                came: seen.came,
-                soon: seen.soon,
+                ..seen
             };
             t += k;
         } else {

@@ -10,17 +10,16 @@ ghost use Rattle.zsrm.specs.Code.Calls.{Call};
 use crate::bytes::put2;
 use crate::calls::{eligible_of, reach_of, run_on};
 use crate::compact::{Going, at_tick, kept};
-use crate::masks::lowest_of;
+use crate::gather::Numbers;
+use crate::masks::{Masks, lowest_of};
 
 // The entry written k times, from t on.
 fn fill_bytes(bytes: &mut [u8], t: usize, k: usize, entry: u16)
     requires { (t + k) * 2 ≤ length bytes.old }
     ensures { bytes.new ≡ sets bytes.old (t * 2) (bytes_of 2 (replicate k entry)) }
 {
-    let mut i: usize = 0;
-    while i < k {
+    for i in 0..k {
         put2(bytes, t + i, entry);
-        i += 1;
     }
 }
 
@@ -29,8 +28,8 @@ pub(crate) fn run_bytes(
     mode: u32,
     tasks: &[u8],
     jobs: &[u8],
-    g: &[u16],
-    masks: &[u64],
+    g: &Numbers,
+    masks: &Masks,
     schedule: &mut [u8],
 )
     requires call { Call (given_bytes mode tasks.now jobs.now) g.now masks.now (length jobs.now / 12) (eqb mode 1) }
@@ -48,6 +47,7 @@ pub(crate) fn run_bytes(
         soon: 65535,
     };
     let mut t: usize = 0;
+    // a turn takes a whole stretch of ticks, as many as nothing happens in, so t goes over no range
     while t < ticks {
         let here = at_tick(t as u32, going, n, g);
         let eligible = eligible_of(here, masks, g);
@@ -58,9 +58,7 @@ pub(crate) fn run_bytes(
         fill_bytes(schedule, t, k, entry);
         let left = Going {
             alive: on.alive,
-            early: here.early,
-            came: here.came,
-            soon: here.soon,
+            ..here
         };
         going = kept((t + k) as u32, left, g);
         t += k;

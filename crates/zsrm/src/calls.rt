@@ -1,15 +1,14 @@
 // One turn of a call from C: who may run at a tick, how far nothing else happens, and what a stretch of the entry makes of what is carried.
-ghost use Rattle.std.specs.Prelude.{◌≡◌, cond, ◌+◌, ◌≤◌, ◌<◌, ltb, length, get_or};
+ghost use Rattle.std.specs.Prelude.{◌≡◌, ◌+◌, ◌≤◌, ◌<◌, get_or};
 ghost use Rattle.zsrm.specs.Code.Calls.{eligible_of, reach_of, stretch_of, left_of, alive_after, done_by};
 
 use crate::compact::{Going, left_of};
 use crate::gap::{arrival_gap, run_gap};
-use crate::gather::execution_in;
-use crate::masks::{ended_of, held_by};
+use crate::gather::{Numbers, execution_in};
+use crate::masks::{Masks, ended_of, held_by};
 
 // The jobs that may run: those alive and not suspended.
-pub(crate) fn eligible_of(going: Going, masks: &[u64], g: &[u16]) -> u64
-    requires { (length masks.now ≡ 32) × (length g.now ≡ 320) }
+pub(crate) fn eligible_of(going: Going, masks: &Masks, g: &Numbers) -> u64
     ensures { result ≡ eligible_of masks.now g.now going }
 {
     let past = bits::without(going.alive, going.early);
@@ -17,19 +16,13 @@ pub(crate) fn eligible_of(going: Going, masks: &[u64], g: &[u16]) -> u64
     bits::without(going.alive, held)
 }
 
-// The one, or the other where it is less.
-fn less_of(a: u32, b: u32) -> u32
-    ensures { result ≡ cond (ltb a b) a b }
-{
-    if a < b { a } else { b }
-}
-
 // How far from t on nothing happens but to the entry: to the next zero-slack instant, the end, or the next arrival.
-pub(crate) fn reach_of(t: u32, going: Going, ticks: u32, n: usize, g: &[u16]) -> u32
-    requires { (t < ticks) × (t < going.soon) × (n ≤ 64) × (length g.now ≡ 320) }
+#[tactic(auto, unfolding(crate::specs::Code::Calls::reach_of, crate::specs::Code::Calls::most_of))]
+pub(crate) fn reach_of(t: u32, going: Going, ticks: u32, n: usize, g: &Numbers) -> u32
+    requires { (t < ticks) × (t < going.soon) × (n ≤ 64) }
     ensures { result ≡ reach_of g.now n going t ticks }
 {
-    let end = less_of(going.soon, ticks);
+    let end = going.soon.min(ticks);
     arrival_gap(t, going.came, end - t, n, g)
 }
 
@@ -39,11 +32,11 @@ fn left_by(
     entry: u16,
     ticks: u16,
     going: Going,
-    done: &[u16],
-    masks: &[u64],
-    g: &[u16],
+    done: &[u16; 64],
+    masks: &Masks,
+    g: &Numbers,
 ) -> u64
-    requires { (entry < 64) × (length done.now ≡ 64) × (length masks.now ≡ 32) × (length g.now ≡ 320) }
+    requires { entry < 64 }
     ensures { result ≡ left_of g.now se done.now entry masks.now going ticks }
 {
     let finishes = ticks == execution_in(g, entry as usize);
@@ -73,12 +66,12 @@ pub(crate) fn run_on(
     entry: u16,
     reach: u32,
     going: Going,
-    done: &mut [u16],
-    masks: &[u64],
+    done: &mut [u16; 64],
+    masks: &Masks,
     n: usize,
-    g: &[u16],
+    g: &Numbers,
 ) -> Stretch
-    requires { (n ≤ 64) × (length done.old ≡ 64) × (length masks.now ≡ 32) × (length g.now ≡ 320) × (entry < n → get_or done.old entry 0 + reach < 65536) }
+    requires { (n ≤ 64) × (entry < n → get_or done.old entry 0 + reach < 65536) }
     ensures ticks { result.ticks ≡ stretch_of g.now se done.old entry n reach }
     ensures alive { result.alive ≡ alive_after g.now se done.old entry n masks.now going result.ticks }
     ensures done { done.new ≡ done_by done.old entry n result.ticks }

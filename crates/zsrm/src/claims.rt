@@ -1,6 +1,6 @@
 // Document 01, "Legal schedules": a claimed schedule replayed from instant to instant, up to the least tick that is not legal.
-ghost use Rattle.std.specs.Prelude.{◌≡◌, true, ◌+◌, ◌≤◌, ◌<◌, length};
-ghost use Rattle.tables.specs.declared.answers.Outcome.{Outcome};
+ghost use Rattle.std.specs.Prelude.{◌≡◌, true, ◌+◌, ◌≤◌, length};
+ghost use Rattle.tables.specs.Outcomes.{Done};
 ghost use Rattle.tables.specs.Tables.{job_count, lists};
 ghost use Rattle.tables.specs.Refusals.{check_lists};
 ghost use Rattle.zsrm.specs.Legal.{is_finished_at, scheduling_instant};
@@ -16,18 +16,13 @@ use crate::look;
 use crate::look::look;
 use crate::mode::{Mode, is_se};
 use crate::record::{Place, Record, Standing, fresh_record};
-use tables::{Outcome, check_schedule, job_at, job_count, nominal_of, zero_slack_instant};
+use tables::{Refusal, check_schedule, job_at, job_count, nominal_of, zero_slack_instant};
 
 // Whether the standing is finished, at the instant t.
 fn is_finished_at(t: u32, standing: Standing) -> bool
     ensures { result ≡ is_finished_at t standing }
 {
-    match standing {
-        Standing::NotArrived => false,
-        Standing::Unfinished => false,
-        Standing::Finished(f) => (f as u32) == t,
-        Standing::Ended(_) => false,
-    }
+    matches!(standing, Standing::Finished(f) if f as u32 == t)
 }
 
 // Whether a job, at its place, makes tick t a scheduling instant.
@@ -43,10 +38,9 @@ fn is_instant_by(
     ensures { result ≡ instant_at (lists tasks.now jobs.now) se last t j place }
 {
     let job = job_at(jobs, j);
-    let standing = place.standing;
     let reached = se & ((last as u32) == j) & ((place.done as u32) == nominal_of(tasks, jobs, j));
     (job.arrival == t)
-        | is_finished_at(t, standing)
+        | is_finished_at(t, place.standing)
         | (zero_slack_instant(tasks, jobs, j) == (t as u64))
         | reached
 }
@@ -60,13 +54,10 @@ pub(crate) fn is_instant(rec: Record, mode: Mode, tasks: &[u32], jobs: &[u32]) -
     let se = is_se(mode);
     let t = rec.tick;
     let last = rec.previous;
-    let mut j: usize = 0;
-    while j < n {
-        let place = rec.places[j];
-        if is_instant_by(se, last, t, j as u32, place, tasks, jobs) {
+    for j in 0..n {
+        if is_instant_by(se, last, t, j as u32, rec.places[j], tasks, jobs) {
             return true;
         }
-        j += 1;
     }
     false
 }
@@ -76,12 +67,10 @@ fn repeats(schedule: &[u16], t: usize, most: u32, entry: u16) -> u32
     requires { t + most ≤ length schedule.now }
     ensures { result ≡ repeated schedule.now t entry most }
 {
-    let mut i: u32 = 0;
-    while i < most {
+    for i in 0..most {
         if schedule[t + i as usize] != entry {
             return i;
         }
-        i += 1;
     }
     most
 }
@@ -96,13 +85,14 @@ pub(crate) struct Walked {
 // A whole schedule replayed, up to the least tick that is not legal. At each instant its entry is looked at anew, also where it goes on;
 // between two of them it is legal exactly where it is the one before.
 pub(crate) fn walk(mode: Mode, tasks: &[u32], jobs: &[u32], schedule: &[u16]) -> Walked
-    requires { (check_lists (lists tasks.now jobs.now) ≡ Outcome.Done) × (length schedule.now ≤ 16384) }
+    requires { (check_lists (lists tasks.now jobs.now) ≡ Done) × (length schedule.now ≤ 16384) }
     ensures { WalkedAs (given mode tasks.now jobs.now) schedule.now result }
 {
     let g = gathered(tasks, jobs);
     let n = job_count(jobs);
     let mut s = started(fresh_record(jobs), n, &g);
     let mut t: usize = 0;
+    // a turn takes a whole stretch of ticks, as many as nothing happens in, so t goes over no range
     while t < schedule.len() {
         let entry = schedule[t];
         let rec = s.record;
@@ -112,14 +102,12 @@ pub(crate) fn walk(mode: Mode, tasks: &[u32], jobs: &[u32], schedule: &[u16]) ->
             let most = (schedule.len() - t) as u32;
             let far = ahead(s, se, entry, most, n, &g);
             let k = repeats(schedule, t, far.ticks, entry);
-            let next = leap(s, seen, se, entry, k, far.early, n, &g);
-            s = next;
+            s = leap(s, seen, se, entry, k, far.early, n, &g);
             t += k as usize;
             if k < far.ticks {
-                let record = s.record;
                 return Walked {
                     ticks: t as u32,
-                    record,
+                    record: s.record,
                 };
             }
         } else {
@@ -129,10 +117,9 @@ pub(crate) fn walk(mode: Mode, tasks: &[u32], jobs: &[u32], schedule: &[u16]) ->
             };
         }
     }
-    let record = s.record;
     Walked {
         ticks: t as u32,
-        record,
+        record: s.record,
     }
 }
 
@@ -141,39 +128,37 @@ pub(crate) fn walk(mode: Mode, tasks: &[u32], jobs: &[u32], schedule: &[u16]) ->
 pub fn replay(mode: Mode, tasks: &[u32], jobs: &[u32], horizon: u32, schedule: &[u16]) -> Replayed
     ensures { result ≡ replay_answer (given mode tasks.now jobs.now) horizon schedule.now }
 {
-    let checked = check_schedule(tasks, jobs, horizon, schedule.len());
-    match checked {
-        Outcome::Done => {
+    match check_schedule(tasks, jobs, horizon, schedule.len()) {
+        Ok(()) => {
             let walked = walk(mode, tasks, jobs, schedule);
-            let ticks = walked.ticks;
-            if (ticks as usize) == schedule.len() {
-                let record = walked.record;
+            if (walked.ticks as usize) == schedule.len() {
                 Replayed {
-                    claim: Claim::Legal,
-                    record,
+                    claim: Ok(Claim::Legal),
+                    record: walked.record,
                 }
             } else {
-                let record = Record::blank();
                 Replayed {
-                    claim: Claim::NotLegal(ticks),
-                    record,
+                    claim: Ok(Claim::NotLegal(walked.ticks)),
+                    record: Record::blank(),
                 }
             }
         }
-        Outcome::Refused(number, place) => {
-            let record = Record::blank();
-            Replayed {
-                claim: Claim::Refused(number, place),
-                record,
-            }
-        }
+        Err(refusal) => Replayed {
+            claim: Err(refusal),
+            record: Record::blank(),
+        },
     }
 }
 
 // Whether a claimed schedule is legal, or the least tick at which it is not; refusals 2 to 10.
-pub fn claim(mode: Mode, tasks: &[u32], jobs: &[u32], horizon: u32, schedule: &[u16]) -> Claim
+pub fn claim(
+    mode: Mode,
+    tasks: &[u32],
+    jobs: &[u32],
+    horizon: u32,
+    schedule: &[u16],
+) -> Result<Claim, Refusal>
     ensures { result ≡ claim_answer (given mode tasks.now jobs.now) horizon schedule.now }
 {
-    let replayed = replay(mode, tasks, jobs, horizon, schedule);
-    replayed.claim
+    replay(mode, tasks, jobs, horizon, schedule).claim
 }

@@ -1,5 +1,5 @@
 // A run that goes by leaps, from instant to instant: as many ticks at once as nothing happens in.
-ghost use Rattle.std.specs.Prelude.{◌≡◌, ℕ, ◌+◌, ◌≤◌, ◌<◌, length};
+ghost use Rattle.std.specs.Prelude.{◌≡◌, ℕ, ◌+◌, ◌≤◌, ◌<◌};
 ghost use Rattle.bits.specs.Below.{word};
 ghost use Rattle.zsrm.specs.Record.{place_at, spent};
 ghost use Rattle.zsrm.specs.Tick.{is_unfinished};
@@ -7,6 +7,7 @@ ghost use Rattle.zsrm.specs.Code.Gathered.{ahead_in, gap_in};
 ghost use Rattle.zsrm.specs.Code.Underway.{alive_in, done_in, first_in, leap_in, started_in};
 
 use crate::gap::{Ahead, came_by, gap, with_span};
+use crate::gather::Numbers;
 use crate::look::{View, ended_in, ticked};
 use crate::record::{Record, Standing};
 
@@ -24,12 +25,7 @@ pub(crate) struct Underway {
 fn is_unfinished(standing: Standing) -> bool
     ensures { result ≡ is_unfinished standing }
 {
-    match standing {
-        Standing::NotArrived => false,
-        Standing::Unfinished => true,
-        Standing::Finished(_) => false,
-        Standing::Ended(_) => false,
-    }
+    matches!(standing, Standing::Unfinished)
 }
 
 // The jobs alive, of those from the first to the last.
@@ -38,19 +34,15 @@ pub(crate) fn alive_in(rec: Record, first: usize, last: usize) -> u64
     ensures { result ≡ alive_in rec first last }
 {
     let mut word: u64 = 0;
-    let mut j = first;
-    while j < last {
-        let place = rec.places[j];
-        let standing = place.standing;
-        word = bits::with_bit_if(word, j as u32, is_unfinished(standing));
-        j += 1;
+    for j in first..last {
+        word = bits::with_bit_if(word, j as u32, is_unfinished(rec.places[j].standing));
     }
     word
 }
 
 // A run of n jobs underway from a record.
-pub(crate) fn started(rec: Record, n: usize, g: &[u16]) -> Underway
-    requires { (n ≤ 64) × (length g.now ≡ 320) }
+pub(crate) fn started(rec: Record, n: usize, g: &Numbers) -> Underway
+    requires { n ≤ 64 }
     ensures { result ≡ started_in g.now n rec }
 {
     let alive = alive_in(rec, 0, n);
@@ -70,16 +62,15 @@ fn done_in(rec: Record, entry: u16, n: usize) -> u16
     ensures { result ≡ done_in rec n entry }
 {
     if (entry as usize) < n {
-        let place = rec.places[entry as usize];
-        place.done
+        rec.places[entry as usize].done
     } else {
         0
     }
 }
 
 // How many ticks nothing happens in while the entry runs, at most so many, and which of the early jobs are left.
-pub(crate) fn ahead(s: Underway, se: bool, entry: u16, most: u32, n: usize, g: &[u16]) -> Ahead
-    requires { (n ≤ 64) × (length g.now ≡ 320) }
+pub(crate) fn ahead(s: Underway, se: bool, entry: u16, most: u32, n: usize, g: &Numbers) -> Ahead
+    requires { n ≤ 64 }
     ensures ticks { result.ticks ≡ gap_in g.now n se s.«record».tick entry (done_in s.«record» n entry) s.came s.early most }
     ensures early { result.early ≡ word 64 (ahead_in g.now s.early s.«record».tick) }
 {
@@ -105,9 +96,9 @@ pub(crate) fn leap(
     k: u32,
     left: u64,
     n: usize,
-    g: &[u16],
+    g: &Numbers,
 ) -> Underway
-    requires n_bound { (n ≤ 64) × (length g.now ≡ 320) × (s.came ≤ n) }
+    requires n_bound { (n ≤ 64) × (s.came ≤ n) }
     requires k_bound { (s.«record».tick + k ≤ 16384) × ((j : ℕ) → j < 64 → spent (place_at s.«record» j) ≤ s.«record».tick) }
     ensures { result ≡ leap_in g.now n se s seen entry k left }
 {

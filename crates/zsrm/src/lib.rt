@@ -26,7 +26,7 @@ mod step;
 mod tie;
 mod witnesses;
 
-pub use answers::{Claim, Judged, Mended, Ran, Replayed, Stepped, Verdict, Verdicts, Witness};
+pub use answers::{Claim, Mended, Ran, Replayed, Stepped, Verdict, Verdicts, Witness};
 pub use c::{zsrm_claim, zsrm_run};
 pub use claims::{claim, replay};
 pub use judging::{verdict, verdicts};
@@ -34,6 +34,6 @@ pub use mending::mend;
 pub use mode::Mode;
 pub use record::{Place, Record, Standing};
 pub use runs::run;
-pub use tables::{Criticality, IDLE, Outcome, Priority};
+pub use tables::{Criticality, IDLE, Outcome, Priority, Refusal};
 pub use tie::Tie;
 pub use witnesses::{response, witness};

@@ -1,12 +1,12 @@
 // Document 01, "One tick", from the word of the jobs alive and the gathered numbers: each loop goes from set bit to set bit.
-ghost use Rattle.std.specs.Prelude.{◌≡◌, ◌&&◌, cond, ◌≤◌, ◌<◌, ltb, length};
+ghost use Rattle.std.specs.Prelude.{◌≡◌, ◌&&◌, cond, ◌≤◌, ltb};
 ghost use Rattle.bits.specs.Below.{word, bit, greatest, least};
 ghost use Rattle.tables.specs.Tables.{idle};
 ghost use Rattle.zsrm.specs.Code.Gathered.{past_in, less_in, level_in, most_past, free_word, view_in, may_run_in, chosen_in, top_or_idle_in, waiting_in, ticked_in};
 ghost use Rattle.zsrm.specs.Code.Underway.{ended_in, most_over};
 
-use crate::gather::{criticality_in, nominal_in, priority_in, slack_in};
-use crate::next::{Ticked, one_more_if};
+use crate::gather::{Numbers, criticality_in, nominal_in, priority_in, slack_in};
+use crate::next::{Ticked, more_if};
 use crate::record::Record;
 use crate::tie::{Tie, is_stay};
 use tables::{Criticality, IDLE, Priority};
@@ -39,20 +39,16 @@ struct Past {
     most: Criticality,
 }
 
-fn past_of(among: u64, t: u32, g: &[u16]) -> Past
-    requires { length g.now ≡ 320 }
+fn past_of(among: u64, t: u32, g: &Numbers) -> Past
     ensures jobs { result.jobs ≡ word 64 (past_in g.now among t) }
     ensures most { result.most.0 ≡ most_past g.now among t }
 {
     let mut jobs: u64 = 0;
     let mut most = Criticality(0);
-    let mut rest = among;
-    while 0 < rest {
-        let j = bits::lowest(rest);
+    for j in bits::each(among) {
         let past = (slack_in(g, j as usize) as u32) <= t;
         jobs = bits::with_bit_if(jobs, j, past);
         most = greater_if(past, criticality_in(g, j as usize), most);
-        rest = bits::without_lowest(rest);
     }
     Past { jobs, most }
 }
@@ -64,28 +60,23 @@ struct Held {
     ready: u64,
 }
 
-fn held_of(among: u64, c: Criticality, g: &[u16]) -> Held
-    requires { length g.now ≡ 320 }
+fn held_of(among: u64, c: Criticality, g: &Numbers) -> Held
     ensures jobs { result.jobs ≡ word 64 (less_in g.now among c.0) }
     ensures ready { result.ready ≡ free_word g.now among c.0 }
 {
     let mut jobs: u64 = 0;
     let mut ready: u64 = 0;
-    let mut rest = among;
-    while 0 < rest {
-        let j = bits::lowest(rest);
+    for j in bits::each(among) {
         let held = c.exceeds(criticality_in(g, j as usize));
         let its = priority_in(g, j as usize);
         jobs = bits::with_bit_if(jobs, j, held);
         ready = bits::with_bit_if(ready, its.0, !held);
-        rest = bits::without_lowest(rest);
     }
     Held { jobs, ready }
 }
 
 // What tick t sees, by the jobs alive.
-pub(crate) fn look(alive: u64, t: u32, g: &[u16]) -> View
-    requires { length g.now ≡ 320 }
+pub(crate) fn look(alive: u64, t: u32, g: &Numbers) -> View
     ensures { result ≡ view_in g.now alive t }
 {
     let past = past_of(alive, t, g);
@@ -101,42 +92,33 @@ pub(crate) fn look(alive: u64, t: u32, g: &[u16]) -> View
 }
 
 // The jobs of a set that are strictly less critical than c.
-pub(crate) fn less_critical_word(among: u64, c: Criticality, g: &[u16]) -> u64
-    requires { length g.now ≡ 320 }
+pub(crate) fn less_critical_word(among: u64, c: Criticality, g: &Numbers) -> u64
     ensures { result ≡ word 64 (less_in g.now among c.0) }
 {
     let mut jobs: u64 = 0;
-    let mut rest = among;
-    while 0 < rest {
-        let j = bits::lowest(rest);
+    for j in bits::each(among) {
         let less = c.exceeds(criticality_in(g, j as usize));
         jobs = bits::with_bit_if(jobs, j, less);
-        rest = bits::without_lowest(rest);
     }
     jobs
 }
 
 // The greatest criticality among the jobs of a set that have done more than C, with one more for the entry, 0 where there is none.
-fn most_over(among: u64, rec: Record, entry: u16, g: &[u16]) -> Criticality
-    requires { length g.now ≡ 320 }
+fn most_over(among: u64, rec: Record, entry: u16, g: &Numbers) -> Criticality
     ensures { result.0 ≡ most_over g.now rec among entry }
 {
     let mut most = Criticality(0);
-    let mut rest = among;
-    while 0 < rest {
-        let j = bits::lowest(rest);
+    for j in bits::each(among) {
         let place = rec.places[j as usize];
-        let done = one_more_if((entry as u32) == j, place.done);
+        let done = more_if((entry as u32) == j, place.done, 1);
         let over = (nominal_in(g, j as usize) as u32) < done;
         most = greater_if(over, criticality_in(g, j as usize), most);
-        rest = bits::without_lowest(rest);
     }
     most
 }
 
 // The jobs that are ended in the tick in which the entry runs.
-pub(crate) fn ended_in(seen: View, rec: Record, se: bool, entry: u16, g: &[u16]) -> u64
-    requires { length g.now ≡ 320 }
+pub(crate) fn ended_in(seen: View, rec: Record, se: bool, entry: u16, g: &Numbers) -> u64
     ensures { result ≡ ended_in g.now se rec seen entry }
 {
     if se {
@@ -148,25 +130,21 @@ pub(crate) fn ended_in(seen: View, rec: Record, se: bool, entry: u16, g: &[u16])
 }
 
 // The lowest-numbered job of a set that has the priority, or idle.
-fn lowest_of(among: u64, p: Priority, g: &[u16]) -> u16
-    requires { length g.now ≡ 320 }
+fn lowest_of(among: u64, p: Priority, g: &Numbers) -> u16
     ensures { result ≡ least 64 (level_in g.now among p.0) idle }
 {
-    let mut rest = among;
-    while 0 < rest {
-        let j = bits::lowest(rest);
+    for j in bits::each(among) {
         let its = priority_in(g, j as usize);
         if its.equals(p) {
             return j as u16;
         }
-        rest = bits::without_lowest(rest);
     }
     IDLE
 }
 
 // Whether the entry is one of the n jobs, in the set, and has the priority.
-fn may_run(among: u64, p: Priority, entry: u16, n: usize, g: &[u16]) -> bool
-    requires { (n ≤ 64) × (length g.now ≡ 320) }
+fn may_run(among: u64, p: Priority, entry: u16, n: usize, g: &Numbers) -> bool
+    requires { n ≤ 64 }
     ensures { result ≡ may_run_in g.now n among p.0 entry }
 {
     if (entry as usize) < n {
@@ -185,8 +163,8 @@ fn top_priority(ready: u64) -> Priority
 }
 
 // The job that stays, or the lowest-numbered eligible job of the top priority that is ready, or idle: 64 is no priority.
-pub(crate) fn choice(seen: View, tie: Tie, previous: u16, n: usize, g: &[u16]) -> u16
-    requires { (n ≤ 64) × (length g.now ≡ 320) }
+pub(crate) fn choice(seen: View, tie: Tie, previous: u16, n: usize, g: &Numbers) -> u16
+    requires { n ≤ 64 }
     ensures { result ≡ chosen_in g.now n tie seen previous }
 {
     let top = top_priority(seen.ready);
@@ -199,8 +177,8 @@ pub(crate) fn choice(seen: View, tie: Tie, previous: u16, n: usize, g: &[u16]) -
 }
 
 // Whether the entry is a candidate, or idle with no candidate.
-pub(crate) fn is_top_or_idle(seen: View, entry: u16, n: usize, g: &[u16]) -> bool
-    requires { (n ≤ 64) × (length g.now ≡ 320) }
+pub(crate) fn is_top_or_idle(seen: View, entry: u16, n: usize, g: &Numbers) -> bool
+    requires { n ≤ 64 }
     ensures { result ≡ top_or_idle_in g.now n seen entry }
 {
     let top = top_priority(seen.ready);

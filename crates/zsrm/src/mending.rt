@@ -1,7 +1,7 @@
 // Request Eleven: a damaged claim mended. Its longest legal beginning is kept; from there on entries are chosen, from instant to instant,
 // and the claim's are only compared with them.
-ghost use Rattle.std.specs.Prelude.{◌≡◌, cond, ◌+◌, ◌≤◌, ◌<◌, length, replicate, take};
-ghost use Rattle.tables.specs.declared.answers.Outcome.{Outcome};
+ghost use Rattle.std.specs.Prelude.{◌≡◌, cond, ◌+◌, ◌≤◌, length, replicate, take};
+ghost use Rattle.tables.specs.Outcomes.{Done};
 ghost use Rattle.tables.specs.Tables.{job_count, lists};
 ghost use Rattle.tables.specs.Refusals.{check_lists};
 ghost use Rattle.zsrm.specs.Run.{entries_by};
@@ -19,16 +19,15 @@ use crate::mode::{Mode, is_se};
 use crate::record::Record;
 use crate::runs::fill;
 use crate::tie::Tie;
-use tables::{Outcome, before, check_schedule, check10, job_count};
+use tables::{Outcome, Refusal, check_schedule, check10, job_count};
 
 // What mending checks of its input: 2 to 9, and 10 of either list.
+#[tactic(auto, unfolding(crate::specs::Answers::check_mend, tables::specs::Refusals::before))]
 fn check_mend(tasks: &[u32], jobs: &[u32], horizon: u32, entries: usize, lent: usize) -> Outcome
     ensures { result ≡ check_mend (lists tasks.now jobs.now) horizon entries lent }
 {
-    before(
-        check_schedule(tasks, jobs, horizon, entries),
-        check10(lent, horizon),
-    )
+    check_schedule(tasks, jobs, horizon, entries)?;
+    check10(lent, horizon)
 }
 
 // Whether the previous entry is kept: the tick is above 0 and no scheduling instant.
@@ -40,19 +39,11 @@ fn keeps_previous(rec: Record, mode: Mode, tasks: &[u32], jobs: &[u32]) -> bool
     (0 < rec.tick) & !instant
 }
 
-// The previous entry where it is kept, else the lowest candidate.
+// The previous entry where it is kept, else the lowest candidate. It has a name of its own, as a proof loses behind an `if` what it chose.
 fn kept_or(keeps: bool, previous: u16, lowest: u16) -> u16
     ensures { result ≡ cond keeps previous lowest }
 {
     if keeps { previous } else { lowest }
-}
-
-// One more where it counts.
-fn count_if(counts: bool, n: u32) -> u32
-    requires { n < 16384 }
-    ensures { result ≡ cond counts 1 0 + n }
-{
-    if counts { n + 1 } else { n }
 }
 
 // How many entries of a list are not the given one.
@@ -60,14 +51,7 @@ fn count_others(entries: &[u16], entry: u16) -> u32
     requires { length entries.now ≤ 16384 }
     ensures { result ≡ differing entries.now (replicate (length entries.now) entry) }
 {
-    let mut others: u32 = 0;
-    let mut i: usize = 0;
-    while i < entries.len() {
-        let its = entries[i];
-        others = count_if(its != entry, others);
-        i += 1;
-    }
-    others
+    entries.iter().filter(|its| **its != entry).count() as u32
 }
 
 // Writes the entries that mending chooses from a record on, for as many ticks as the list has entries, and counts those that are not the
@@ -80,7 +64,7 @@ fn mend_from(
     claimed: &[u16],
     into: &mut [u16],
 ) -> u32
-    requires jobs_value { (check_lists (lists tasks.now jobs.now) ≡ Outcome.Done) × (length claimed.now ≡ length into.old) }
+    requires jobs_value { (check_lists (lists tasks.now jobs.now) ≡ Done) × (length claimed.now ≡ length into.old) }
     requires mendable { Mendable (given mode tasks.now jobs.now) start × (start.tick + length into.old ≤ 16384) }
     ensures counts { result ≡ differing claimed.now (entries_by (given mode tasks.now jobs.now)
         (mend_choice (given mode tasks.now jobs.now)) start (length into.old)) }
@@ -93,6 +77,7 @@ fn mend_from(
     let mut keeps = keeps_previous(start, mode, tasks, jobs);
     let mut changed: u32 = 0;
     let mut t: usize = 0;
+    // a turn takes a whole stretch of ticks, as many as nothing happens in, so t goes over no range
     while t < into.len() {
         let rec = s.record;
         let se = is_se(mode);
@@ -105,10 +90,9 @@ fn mend_from(
         let end = t + k as usize;
         let others = count_others(&claimed[t..end], chosen);
         fill(into, t, k as usize, chosen);
-        let next = leap(s, seen, se, chosen, k, far.early, n, &g);
+        s = leap(s, seen, se, chosen, k, far.early, n, &g);
         changed += others;
         keeps = false;
-        s = next;
         t = end;
     }
     changed
@@ -120,11 +104,7 @@ fn copy(from: &[u16], n: usize, to: &mut [u16])
     ensures long { length to.new ≡ length to.old }
     ensures copies { take n to.new ≡ take n from.now }
 {
-    let mut t: usize = 0;
-    while t < n {
-        to[t] = from[t];
-        t += 1;
-    }
+    to[..n].copy_from_slice(&from[..n]);
 }
 
 // Writes the mended schedule, the claim being replayed, and counts the entries that differ.
@@ -136,16 +116,15 @@ fn write_mended(
     schedule: &[u16],
     into: &mut [u16],
 ) -> u32
-    requires jobs_value { (check_lists (lists tasks.now jobs.now) ≡ Outcome.Done) × WalkedAs (given mode tasks.now jobs.now) schedule.now walked }
+    requires jobs_value { (check_lists (lists tasks.now jobs.now) ≡ Done) × WalkedAs (given mode tasks.now jobs.now) schedule.now walked }
     requires schedule_len_bound { (length schedule.now ≤ 16384) × (length into.old ≡ length schedule.now) }
     ensures counts { result ≡ differing schedule.now (mended (given mode tasks.now jobs.now) schedule.now) }
     ensures writes { into.new ≡ mended (given mode tasks.now jobs.now) schedule.now }
 {
     let first = walked.ticks as usize;
     copy(schedule, first, into);
-    let record = walked.record;
     mend_from(
-        record,
+        walked.record,
         mode,
         tasks,
         jobs,
@@ -163,22 +142,17 @@ pub fn mend(
     horizon: u32,
     schedule: &[u16],
     mended: &mut [u16],
-) -> Mended
+) -> Result<Mended, Refusal>
     ensures answers { result ≡ mend_answer (given mode tasks.now jobs.now) horizon schedule.now mended.old }
     ensures writes { mended.new ≡ mend_schedule (given mode tasks.now jobs.now) horizon schedule.now mended.old }
 {
-    let checked = check_mend(tasks, jobs, horizon, schedule.len(), mended.len());
-    match checked {
-        Outcome::Done => {
-            let walked = walk(mode, tasks, jobs, schedule);
-            let first = walked.ticks;
-            let changed = write_mended(walked, mode, tasks, jobs, schedule, mended);
-            if (first as usize) == schedule.len() {
-                Mended::Whole
-            } else {
-                Mended::Changed(first, changed)
-            }
-        }
-        Outcome::Refused(number, place) => Mended::Refused(number, place),
+    check_mend(tasks, jobs, horizon, schedule.len(), mended.len())?;
+    let walked = walk(mode, tasks, jobs, schedule);
+    let first = walked.ticks;
+    let changed = write_mended(walked, mode, tasks, jobs, schedule, mended);
+    if (first as usize) == schedule.len() {
+        Ok(Mended::Whole)
+    } else {
+        Ok(Mended::Changed(first, changed))
     }
 }

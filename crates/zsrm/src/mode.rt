@@ -2,7 +2,7 @@
 ghost use Rattle.std.specs.Prelude.{◌≡◌};
 ghost use Rattle.zsrm.specs.Given.{is_se};
 
-#[derive(Clone, Copy)]
+#[derive(Clone, Copy, Debug, PartialEq, Eq)]
 pub enum Mode {
     S,
     SE,
@@ -12,8 +12,5 @@ pub enum Mode {
 pub(crate) fn is_se(mode: Mode) -> bool
     ensures { result ≡ is_se mode }
 {
-    match mode {
-        Mode::S => false,
-        Mode::SE => true,
-    }
+    matches!(mode, Mode::SE)
 }

@@ -1,10 +1,10 @@
 // Document 01, "One tick": what a tick does to the record, and k ticks in which nothing else happens.
-ghost use Rattle.std.specs.Prelude.{◌≡◌, cond, ℕ, ◌+◌, ◌≤◌, ◌<◌, length};
+ghost use Rattle.std.specs.Prelude.{◌≡◌, cond, ℕ, ◌+◌, ◌≤◌, ◌<◌};
 ghost use Rattle.zsrm.specs.Record.{place_at, spent};
 ghost use Rattle.zsrm.specs.Code.Next.{worked_on, next_standing, next_place};
 ghost use Rattle.zsrm.specs.Code.Underway.{next_in};
 
-use crate::gather::{arrival_in, execution_in};
+use crate::gather::{Numbers, arrival_in, execution_in};
 use crate::record::{Place, Record, Standing, opening};
 
 // What a tick does to the jobs: the entry that runs, and as words those suspended, those eligible while another job runs, and those ended.
@@ -22,9 +22,8 @@ fn worked_on(t: u32, k: u32, finishes: bool, ended: bool) -> Standing
     ensures { result ≡ worked_on t k finishes ended }
 {
     if finishes {
-        return Standing::Finished((t + k) as u16);
-    }
-    if ended {
+        Standing::Finished((t + k) as u16)
+    } else if ended {
         Standing::Ended(t as u16)
     } else {
         Standing::Unfinished
@@ -53,19 +52,8 @@ fn next_standing(
     }
 }
 
-// The ticks, with one more where this one counts.
-pub(crate) fn one_more_if(counts: bool, ticks: u16) -> u32
-    ensures { result ≡ ticks + cond counts 1 0 }
-{
-    if counts {
-        (ticks as u32) + 1
-    } else {
-        ticks as u32
-    }
-}
-
 // The ticks, with k more where they count.
-fn more_if(counts: bool, ticks: u16, k: u32) -> u32
+pub(crate) fn more_if(counts: bool, ticks: u16, k: u32) -> u32
     requires { k ≤ 16384 }
     ensures { result ≡ ticks + cond counts k 0 }
 {
@@ -113,22 +101,20 @@ impl Record {
         ticked: Ticked,
         first: usize,
         last: usize,
-        g: &[u16],
+        g: &Numbers,
     ) -> Record
-        requires last_bound { (last ≤ 64) × (length g.now ≡ 320) }
+        requires last_bound { last ≤ 64 }
         requires k_bound { (self.tick + k ≤ 16384) × ((j : ℕ) → j < 64 → spent (place_at self j) ≤ self.tick) }
         ensures { result ≡ next_in g.now first last self k ticked }
     {
         let t = self.tick;
         let mut out = self;
         out.tick = t + k;
-        let mut j = first;
-        while j < last {
+        for j in first..last {
             let place = out.places[j];
             let a = arrival_in(g, j);
             let c = execution_in(g, j);
             out.places[j] = next_place(place, t, k, ticked, j as u32, a as u32, c as u32);
-            j += 1;
         }
         out.previous = ticked.entry;
         out

@@ -9,7 +9,7 @@ ghost use Rattle.zsrm.specs.Code.Next.{opening_of};
 use crate::mode::{Mode, is_se};
 use tables::{IDLE, Outcome, job_at, job_count, refuse};
 
-#[derive(Clone, Copy)]
+#[derive(Clone, Copy, Debug, PartialEq, Eq)]
 pub enum Standing {
     NotArrived,
     Unfinished,
@@ -19,7 +19,7 @@ pub enum Standing {
     Ended(u16),
 }
 
-#[derive(Clone, Copy)]
+#[derive(Clone, Copy, Debug, PartialEq, Eq)]
 pub struct Place {
     pub done: u16,
     // ticks suspended while alive
@@ -29,7 +29,7 @@ pub struct Place {
     pub standing: Standing,
 }
 
-#[derive(Clone, Copy)]
+#[derive(Clone, Copy, Debug, PartialEq, Eq)]
 pub struct Record {
     pub tick: u32,
     // the entry of the tick before; idle at tick 0
@@ -69,14 +69,14 @@ fn has_arrived(jobs: &[u32], t: u32, j: u32) -> bool
 fn is_by(a: u32, n: u32, t: u32) -> bool
     ensures { result ≡ leb (a + n) t }
 {
-    if a <= t { n <= t - a } else { false }
+    a <= t && n <= t - a
 }
 
 // Whether n ticks from the instant a on pass exactly at t.
 fn is_just(a: u32, n: u32, t: u32) -> bool
     ensures { result ≡ eqb (a + n) t }
 {
-    if a <= t { n == t - a } else { false }
+    a <= t && n == t - a
 }
 
 // What consistency asks of one place, by its standing.
@@ -100,9 +100,8 @@ fn is_sound(se: bool, here: bool, a: u32, c: u32, t: u32, done: u32, standing: S
 fn is_accounted(a: u32, t: u32, place: Place) -> bool
     ensures { result ≡ accounted a t place place.standing }
 {
-    let standing = place.standing;
     let spent = (place.done as u32) + (place.suspended as u32) + (place.waited as u32);
-    match standing {
+    match place.standing {
         Standing::NotArrived => (place.suspended == 0) & (place.waited == 0),
         Standing::Unfinished => is_just(a, spent, t),
         Standing::Finished(f) => is_just(a, spent, f as u32),
@@ -117,7 +116,6 @@ fn is_sound_at(mode: Mode, jobs: &[u32], t: u32, j: u32, place: Place) -> bool
 {
     let job = job_at(jobs, j);
     let here = has_arrived(jobs, t, j);
-    let standing = place.standing;
     let sound = is_sound(
         is_se(mode),
         here,
@@ -125,7 +123,7 @@ fn is_sound_at(mode: Mode, jobs: &[u32], t: u32, j: u32, place: Place) -> bool
         job.execution,
         t,
         place.done as u32,
-        standing,
+        place.standing,
     );
     sound & is_accounted(job.arrival, t, place)
 }
@@ -144,11 +142,8 @@ pub(crate) fn is_consistent(rec: Record, mode: Mode, tasks: &[u32], jobs: &[u32]
 {
     let t = rec.tick;
     let mut every = true;
-    let mut j: usize = 0;
-    while j < 64 {
-        let place = rec.places[j];
-        every = is_sound_at(mode, jobs, t, j as u32, place) & every;
-        j += 1;
+    for j in 0..64 {
+        every = is_sound_at(mode, jobs, t, j as u32, rec.places[j]) & every;
     }
     (t <= 16384) & is_sound_previous(jobs, t, rec.previous) & every
 }
@@ -193,10 +188,8 @@ pub(crate) fn fresh_record(jobs: &[u32]) -> Record
     ensures { result ≡ fresh jobs.now }
 {
     let mut out = Record::blank();
-    let mut j: usize = 0;
-    while j < 64 {
+    for j in 0..64 {
         out.places[j] = fresh_place(jobs, j as u32);
-        j += 1;
     }
     out
 }

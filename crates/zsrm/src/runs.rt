@@ -1,7 +1,7 @@
 // Runs, from instant to instant: their entries written into the caller's list.
 ghost use Rattle.std.specs.Prelude.{◌≡◌, true, ◌+◌, ◌≤◌, length, replicate};
 ghost use Rattle.std.proofs.lemmas.List.Edits.{sets};
-ghost use Rattle.tables.specs.declared.answers.Outcome.{Outcome};
+ghost use Rattle.tables.specs.Outcomes.{Done};
 ghost use Rattle.tables.specs.Refusals.{check_lists};
 ghost use Rattle.zsrm.specs.Record.{consistent};
 ghost use Rattle.zsrm.specs.Run.{entries_by, final_by};
@@ -17,18 +17,14 @@ use crate::look::{choice, look};
 use crate::mode::{Mode, is_se};
 use crate::record::{Record, check_room, check11, fresh_record, is_consistent};
 use crate::tie::Tie;
-use tables::{Outcome, before, check_lists, check_schedule, check10, job_count};
+use tables::{Outcome, check_lists, check_schedule, check10, job_count};
 
 // The entry written k times, from t on.
 pub(crate) fn fill(schedule: &mut [u16], t: usize, k: usize, entry: u16)
     requires { t + k ≤ length schedule.old }
     ensures { schedule.new ≡ sets schedule.old t (replicate k entry) }
 {
-    let mut i: usize = 0;
-    while i < k {
-        schedule[t + i] = entry;
-        i += 1;
-    }
+    schedule[t..t + k].fill(entry);
 }
 
 // A run from any consistent record for as many ticks as the list has entries.
@@ -40,7 +36,7 @@ pub(crate) fn run_from(
     jobs: &[u32],
     schedule: &mut [u16],
 ) -> Record
-    requires jobs_value { check_lists (lists tasks.now jobs.now) ≡ Outcome.Done }
+    requires jobs_value { check_lists (lists tasks.now jobs.now) ≡ Done }
     requires start_value { (consistent (given mode tasks.now jobs.now) start ≡ true) × (start.tick + length schedule.old ≤ 16384) }
     ensures ends { result ≡ final_by (given mode tasks.now jobs.now)
         (choice (given mode tasks.now jobs.now) tie) start (length schedule.old) }
@@ -51,6 +47,7 @@ pub(crate) fn run_from(
     let n = job_count(jobs);
     let mut s = started(start, n, &g);
     let mut t: usize = 0;
+    // a turn takes a whole stretch of ticks, as many as nothing happens in, so t goes over no range
     while t < schedule.len() {
         let rec = s.record;
         let se = is_se(mode);
@@ -60,8 +57,7 @@ pub(crate) fn run_from(
         let far = ahead(s, se, entry, most, n, &g);
         let k = far.ticks;
         fill(schedule, t, k as usize, entry);
-        let next = leap(s, seen, se, entry, k, far.early, n, &g);
-        s = next;
+        s = leap(s, seen, se, entry, k, far.early, n, &g);
         t += k as usize;
     }
     s.record
@@ -79,20 +75,18 @@ pub fn run(
     ensures answers { result ≡ run_answer (given mode tasks.now jobs.now) tie horizon schedule.old }
     ensures writes { schedule.new ≡ run_schedule (given mode tasks.now jobs.now) tie horizon schedule.old }
 {
-    let checked = check_schedule(tasks, jobs, horizon, schedule.len());
-    match checked {
-        Outcome::Done => {
+    let outcome = check_schedule(tasks, jobs, horizon, schedule.len());
+    match outcome {
+        Ok(()) => {
             let made = run_from(fresh_record(jobs), mode, tie, tasks, jobs, schedule);
-            or_blank(Outcome::Done, made)
+            or_blank(outcome, made)
         }
-        Outcome::Refused(number, place) => or_blank(
-            Outcome::Refused(number, place),
-            Record::blank(),
-        ),
+        Err(_) => or_blank(outcome, Record::blank()),
     }
 }
 
 // What going on checks of its input: 2 to 8, 10, 11, 12.
+#[tactic(auto, unfolding(crate::specs::Answers::check_go_on, tables::specs::Refusals::before))]
 fn check_go_on(
     rec: Record,
     mode: Mode,
@@ -103,12 +97,10 @@ fn check_go_on(
 ) -> Outcome
     ensures { result ≡ check_go_on (given mode tasks.now jobs.now) rec ticks entries }
 {
-    let consistent = check11(is_consistent(rec, mode, tasks, jobs));
-    let rest = before(consistent, check_room(rec.tick, ticks));
-    before(
-        check_lists(tasks, jobs),
-        before(check10(entries, ticks), rest),
-    )
+    check_lists(tasks, jobs)?;
+    check10(entries, ticks)?;
+    check11(is_consistent(rec, mode, tasks, jobs))?;
+    check_room(rec.tick, ticks)
 }
 
 impl Record {
@@ -126,16 +118,13 @@ impl Record {
         ensures answers { result ≡ go_on_answer (given mode tasks.now jobs.now) tie self ticks schedule.old }
         ensures writes { schedule.new ≡ go_on_schedule (given mode tasks.now jobs.now) tie self ticks schedule.old }
     {
-        let checked = check_go_on(self, mode, tasks, jobs, ticks, schedule.len());
-        match checked {
-            Outcome::Done => {
-                let record = run_from(self, mode, tie, tasks, jobs, schedule);
-                or_blank(Outcome::Done, record)
+        let outcome = check_go_on(self, mode, tasks, jobs, ticks, schedule.len());
+        match outcome {
+            Ok(()) => {
+                let made = run_from(self, mode, tie, tasks, jobs, schedule);
+                or_blank(outcome, made)
             }
-            Outcome::Refused(number, place) => or_blank(
-                Outcome::Refused(number, place),
-                Record::blank(),
-            ),
+            Err(_) => or_blank(outcome, Record::blank()),
         }
     }
 }

@@ -10,16 +10,15 @@ use crate::look::{choice, ended_in, look, ticked};
 use crate::mode::{Mode, is_se};
 use crate::record::{Record, check11, check12, fresh_record, is_consistent};
 use crate::tie::Tie;
-use tables::{Outcome, before, check_lists, job_count};
+use tables::{Outcome, Refusal, check_lists, job_count};
 
 // A refused step's record is blank, and every other number in it is 0.
-fn refused_step(number: u32, place: u32) -> Stepped
-    ensures { result ≡ refused_step number place }
+fn refused_step(refusal: Refusal) -> Stepped
+    ensures { result ≡ refused_step refusal.number refusal.place }
 {
-    let record = Record::blank();
     Stepped {
-        outcome: Outcome::Refused(number, place),
-        record,
+        outcome: Err(refusal),
+        record: Record::blank(),
         ready: 0,
         ones: 0,
         entry: 0,
@@ -28,14 +27,13 @@ fn refused_step(number: u32, place: u32) -> Stepped
 }
 
 // What a step checks of its input: 2 to 8, 11, 12.
+#[tactic(auto, unfolding(crate::specs::Answers::check_step, tables::specs::Refusals::before))]
 fn check_step(rec: Record, mode: Mode, tasks: &[u32], jobs: &[u32]) -> Outcome
     ensures { result ≡ check_step (given mode tasks.now jobs.now) rec }
 {
-    let consistent = check11(is_consistent(rec, mode, tasks, jobs));
-    before(
-        check_lists(tasks, jobs),
-        before(consistent, check12(rec.tick)),
-    )
+    check_lists(tasks, jobs)?;
+    check11(is_consistent(rec, mode, tasks, jobs))?;
+    check12(rec.tick)
 }
 
 impl Record {
@@ -50,9 +48,8 @@ impl Record {
     pub fn step(self, mode: Mode, tie: Tie, tasks: &[u32], jobs: &[u32]) -> Stepped
         ensures { result ≡ step_answer (given mode tasks.now jobs.now) tie self }
     {
-        let checked = check_step(self, mode, tasks, jobs);
-        match checked {
-            Outcome::Done => {
+        match check_step(self, mode, tasks, jobs) {
+            Ok(()) => {
                 let g = gathered(tasks, jobs);
                 let n = job_count(jobs);
                 let seen = look(alive_in(self, 0, n), self.tick, &g);
@@ -61,7 +58,7 @@ impl Record {
                 let record = self.after(1, ticked(seen, entry, ended, n), 0, n, &g);
                 let ones = bits::ones(seen.ready);
                 Stepped {
-                    outcome: Outcome::Done,
+                    outcome: Ok(()),
                     record,
                     ready: seen.ready,
                     ones,
@@ -69,7 +66,7 @@ impl Record {
                     ended,
                 }
             }
-            Outcome::Refused(number, place) => refused_step(number, place),
+            Err(refusal) => refused_step(refusal),
         }
     }
 }

@@ -2,7 +2,7 @@
 ghost use Rattle.std.specs.Prelude.{◌≡◌};
 ghost use Rattle.zsrm.specs.Tick.{is_stay};
 
-#[derive(Clone, Copy)]
+#[derive(Clone, Copy, Debug, PartialEq, Eq)]
 pub enum Tie {
     // the job of the previous tick if it is still a candidate, else the lowest number
     Stay,
@@ -13,8 +13,5 @@ pub enum Tie {
 pub(crate) fn is_stay(tie: Tie) -> bool
     ensures { result ≡ is_stay tie }
 {
-    match tie {
-        Tie::Stay => true,
-        Tie::Lowest => false,
-    }
+    matches!(tie, Tie::Stay)
 }

@@ -3,7 +3,7 @@ ghost use Rattle.std.specs.Prelude.{◌≡◌, true, ◌<◌, ◌≤◌};
 ghost use Rattle.tables.specs.Tables.{arrival, job_count, lists};
 ghost use Rattle.zsrm.specs.Record.{standing_at};
 ghost use Rattle.zsrm.specs.Code.Claims.{FitsIn};
-ghost use Rattle.zsrm.specs.Verdict.{missed, blamed, breaks, outsider, answered, part_to, shown_by, Shows};
+ghost use Rattle.zsrm.specs.Verdict.{blamed, breaks, outsider, answered, part_to, shown_by, Shows};
 ghost use Rattle.zsrm.specs.Given.{given};
 ghost use Rattle.zsrm.specs.Answers.{check_witness, witness_answer, response_answer};
 
@@ -13,7 +13,7 @@ use crate::judging::judge_at;
 use crate::mode::Mode;
 use crate::record::{Record, Standing};
 use tables::{
-    Outcome, before, check_schedule, check13, criticality_of, job_at, job_count, nominal_of,
+    Outcome, Refusal, check_schedule, check13, criticality_of, job_at, job_count, nominal_of,
 };
 
 // Against a job that missed a witness is accepted.
@@ -21,24 +21,10 @@ fn blame(verdict: Verdict) -> Witness
     ensures { result ≡ blamed verdict }
 {
     match verdict {
-        Verdict::Refused(_, _) => Witness::NotMissed,
         Verdict::Met => Witness::NotMissed,
         Verdict::Late(by, exact) => Witness::AcceptedLate(by, exact),
         Verdict::Ended => Witness::AcceptedEnded,
         Verdict::Open => Witness::NotMissed,
-    }
-}
-
-// Missed means late or ended.
-fn is_missed(verdict: Verdict) -> bool
-    ensures { result ≡ missed verdict }
-{
-    match verdict {
-        Verdict::Refused(_, _) => false,
-        Verdict::Met => false,
-        Verdict::Late(_, _) => true,
-        Verdict::Ended => true,
-        Verdict::Open => false,
     }
 }
 
@@ -51,21 +37,18 @@ fn is_breaking(i: u32, j: u32, tasks: &[u32], jobs: &[u32]) -> bool
     criticality_of(tasks, jobs, i).exceeds(named) & (nominal_of(tasks, jobs, i) < job.execution)
 }
 
-// The first job that breaks the assumption for job j, or the number of jobs: from the last job down, so that the lowest stays.
+// The first job that breaks the assumption for job j, or the number of jobs.
 fn first_breaking(j: u32, tasks: &[u32], jobs: &[u32]) -> u32
     requires { job_count jobs.now ≤ 64 }
     ensures { result ≡ outsider (lists tasks.now jobs.now) j }
 {
-    let n = job_count(jobs);
-    let mut first = n;
-    let mut i = n;
-    while 0 < i {
-        i -= 1;
-        if is_breaking(i as u32, j, tasks, jobs) {
-            first = i;
+    let n = job_count(jobs) as u32;
+    for i in 0..n {
+        if is_breaking(i, j, tasks, jobs) {
+            return i;
         }
     }
-    first as u32
+    n
 }
 
 // The answers to a witness, in order; `ticks` is the length of the schedule's legal beginning, `first` the job to be named where the
@@ -73,7 +56,7 @@ fn first_breaking(j: u32, tasks: &[u32], jobs: &[u32]) -> u32
 fn answer_witness(legal: bool, ticks: u32, outside: bool, first: u32, verdict: Verdict) -> Witness
     ensures { result ≡ answered legal ticks outside first verdict }
 {
-    let missed = is_missed(verdict);
+    let missed = verdict.is_missed();
     if !legal {
         Witness::NotLegal(ticks)
     } else if outside {
@@ -86,13 +69,12 @@ fn answer_witness(legal: bool, ticks: u32, outside: bool, first: u32, verdict: V
 }
 
 // What a witness and the response part check of their input: 2 to 10, 13.
+#[tactic(auto, unfolding(crate::specs::Answers::check_witness, tables::specs::Refusals::before))]
 fn check_witness(tasks: &[u32], jobs: &[u32], horizon: u32, entries: usize, j: u32) -> Outcome
     ensures { result ≡ check_witness (lists tasks.now jobs.now) horizon entries j }
 {
-    before(
-        check_schedule(tasks, jobs, horizon, entries),
-        check13(jobs, j),
-    )
+    check_schedule(tasks, jobs, horizon, entries)?;
+    check13(jobs, j)
 }
 
 // Whether a claimed schedule is a witness that the job missed though every strictly more critical job keeps to its C; refusals 2 to 10, 13.
@@ -103,28 +85,17 @@ pub fn witness(
     horizon: u32,
     schedule: &[u16],
     job: u32,
-) -> Witness
+) -> Result<Witness, Refusal>
     ensures { result ≡ witness_answer (given mode tasks.now jobs.now) horizon schedule.now job }
 {
-    let checked = check_witness(tasks, jobs, horizon, schedule.len(), job);
-    match checked {
-        Outcome::Done => {
-            let walked = walk(mode, tasks, jobs, schedule);
-            let record = walked.record;
-            let ticks = walked.ticks;
-            let verdict = judge_at(record, tasks, jobs, job);
-            let first = first_breaking(job, tasks, jobs);
-            let outside = (first as usize) < job_count(jobs);
-            answer_witness(
-                (ticks as usize) == schedule.len(),
-                ticks,
-                outside,
-                first,
-                verdict,
-            )
-        }
-        Outcome::Refused(number, place) => Witness::Refused(number, place),
-    }
+    check_witness(tasks, jobs, horizon, schedule.len(), job)?;
+    let walked = walk(mode, tasks, jobs, schedule);
+    let ticks = walked.ticks;
+    let verdict = judge_at(walked.record, tasks, jobs, job);
+    let first = first_breaking(job, tasks, jobs);
+    let outside = (first as usize) < job_count(jobs);
+    let legal = (ticks as usize) == schedule.len();
+    Ok(answer_witness(legal, ticks, outside, first, verdict))
 }
 
 // The entries of a finished job, from its arrival up to its finishing instant; for every other standing the empty part.
@@ -152,11 +123,9 @@ fn replayed_part<'a>(
     requires { (j < 64) × (legal ≡ true → FitsIn (arrival jobs.now j) schedule.now (standing_at rec j)) }
     ensures { Shows schedule.entry.ref_ptr (shown_by legal (part_to (arrival jobs.now j) schedule.now (standing_at rec j))) result.ref_ptr result.now }
 {
-    let i = j as usize;
-    let place = rec.places[i];
-    let standing = place.standing;
+    let place = rec.places[j as usize];
     if legal {
-        finished_part(standing, jobs, j, schedule)
+        finished_part(place.standing, jobs, j, schedule)
     } else {
         &schedule[0..0]
     }
@@ -174,15 +143,12 @@ pub fn response<'a>(
 ) -> &'a [u16]
     ensures { Shows schedule.entry.ref_ptr (response_answer (given mode tasks.now jobs.now) horizon schedule.now job) result.ref_ptr result.now }
 {
-    let checked = check_witness(tasks, jobs, horizon, schedule.len(), job);
-    match checked {
-        Outcome::Done => {
+    match check_witness(tasks, jobs, horizon, schedule.len(), job) {
+        Ok(()) => {
             let walked = walk(mode, tasks, jobs, schedule);
-            let record = walked.record;
-            let ticks = walked.ticks;
-            let legal = (ticks as usize) == schedule.len();
-            replayed_part(legal, record, jobs, job, schedule)
+            let legal = (walked.ticks as usize) == schedule.len();
+            replayed_part(legal, walked.record, jobs, job, schedule)
         }
-        Outcome::Refused(_, _) => &schedule[0..0],
+        Err(_) => &schedule[0..0],
     }
 }

@@ -4,8 +4,8 @@ use mathlib.Core.List.{List}
 use mathlib.Core.Logic.{inl}
 use mathlib.Core.Path.{ap, sym, ◌∙◌, ◌≡◌}
 use lib.ListN.{length, replicate}
-use Rattle.tables.specs.declared.answers.Outcome.{Outcome}
-use Rattle.tables.specs.declared.answers.Outcome.TheVariants.{Done, Refused}
+use Rattle.std.specs.Prelude.{Ok, Err, ⊤}
+use Rattle.tables.specs.Outcomes.{Outcome, Done}
 use Rattle.tables.specs.Refusals.{before, check9, check_jobs, check_lists, check_tasks, unless, check_schedule}
 use Rattle.tables.proofs.Laws.Refusals.{before_first, before_last, before_second}
 use Rattle.tables.proofs.Laws.Accepted.{schedule_checked}
@@ -18,20 +18,20 @@ use Rattle.zsrm.specs.Record.{blank}
 use Rattle.zsrm.specs.Run.{run_record}
 use Rattle.zsrm.proofs.Laws.Answers.{run_given_law, run_outcome}
 use Rattle.batch.specs.declared.answers.Batch.{Batch}
-use Rattle.batch.specs.declared.refusals.Found.{Found}
+use Rattle.batch.specs.declared.refusals.RefusedRun.{RefusedRun}
 use Rattle.batch.specs.Answers.{batch_answer, batch_schedule, checked}
-use Rattle.batch.specs.Refusals.{check17, check_batch, check_call}
+use Rattle.batch.specs.Refusals.{Found, check17, check_batch, check_call, outcome_of}
 use Rattle.batch.specs.Runs.{Offer, given_of, list_of, records_of, schedules_of}
 use Rattle.batch.proofs.Laws.Refusals.{batch_passes, call_17}
 
 module _ (o : Offer) (lent : List ℕ) (found : Found) (is : found ≡ check_batch o.tasks o.jobs o.counts o.horizon (length lent)) where
-  module _ (ok : found.outcome ≡ Done) where
+  module _ {u : ⊤} (ok : found ≡ Ok u) where
     pub answer_17 : check17 o.jobs o.counts o.horizon (length lent) ≡ Done
     answer_17 =
         call_17 o.tasks o.jobs o.counts o.horizon (length lent)
-        (batch_passes o.tasks o.jobs o.counts o.horizon (length lent) (ap (λ (x : Found). x.outcome) (sym is) ∙ ok))
+        (batch_passes o.tasks o.jobs o.counts o.horizon (length lent) (ap outcome_of (sym is ∙ ok)))
 
-    pub answer_done : (records : List Record) → records ≡ records_of o lent (length o.counts) → ◌≡◌ {A = Batch} (record { outcome = Done; run = found.run; records = records }) (batch_answer o lent)
+    pub answer_done : (records : List Record) → records ≡ records_of o lent (length o.counts) → ◌≡◌ {A = Batch} (record { outcome = Done; run = 0; records = records }) (batch_answer o lent)
     unfolding batch_answer checked unless
     answer_done records made = rw (← is, ok, made)
 
@@ -39,8 +39,8 @@ module _ (o : Offer) (lent : List ℕ) (found : Found) (is : found ≡ check_bat
     unfolding batch_schedule checked unless
     schedule_done schedule wrote = rw (← is, ok) wrote
 
-  module _ (number place : ℕ) (refuses : found.outcome ≡ Refused number place) where
-    pub answer_refused : (records : List Record) → records ≡ replicate 32 blank → ◌≡◌ {A = Batch} (record { outcome = Refused number place; run = found.run; records = records }) (batch_answer o lent)
+  module _ {w : RefusedRun} (refuses : found ≡ Err w) where
+    pub answer_refused : (records : List Record) → records ≡ replicate 32 blank → ◌≡◌ {A = Batch} (record { outcome = Err w.refusal; run = w.run; records = records }) (batch_answer o lent)
     unfolding batch_answer checked unless
     answer_refused records none = rw (← is, refuses, none)
 

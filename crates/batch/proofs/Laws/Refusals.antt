@@ -4,41 +4,65 @@ use mathlib.Core.Bool.{Bool, false, not, true, ◌||◌}
 use mathlib.Core.List.{List, [], ◌∷◌}
 use mathlib.Core.Logic.{inl, inr, ◌↔◌, ◌⊎◌}
 use mathlib.Core.Path.{ap, ap₂, refl, subst, sym, ◌∙◌, ◌≡◌}
+use native.Mathlib.Nat.{not-suc-le-zero}
 use native.Mathlib.Numerals.{add-one}
 use native.Mathlib.Omega.{arith}
 use lib.Dec.{eqb, ltb}
 use lib.ListN.{length}
 use borrow.Author.Tests.{eq-eqb, eqb-true, le-ltb, ltb-false}
+use Rattle.bits.proofs.Laws.Below.{last_or_below}
 use Rattle.bits.proofs.Laws.Bools.{apart}
-use Rattle.tables.specs.declared.answers.Outcome.{Outcome}
-use Rattle.tables.specs.declared.answers.Outcome.TheVariants.{Done, Refused}
-use Rattle.tables.specs.Refusals.{ascending, before, check9, check_jobs, check_tasks, refuse, unless}
+use Rattle.std.specs.Prelude.{Ok, Err, IsErrAnd, ⊤}
+use Rattle.tables.specs.Outcomes.{Outcome, Done, Refused}
+use Rattle.tables.specs.Refusals.{ascending, before, check9, check_jobs, check_tasks, refuse}
 use Rattle.tables.proofs.Laws.Refusals.{Numbered, ascending_at, before_first, before_second, fine, numbered_before, numbered_refuse, refuse_fine, tasks_numbered, first_of, own_refused}
-use Rattle.batch.specs.declared.refusals.Found.{Found}
-use Rattle.batch.specs.Refusals.{check17, check_batch, check_call, check_runs, goes_first, with_run}
+use Rattle.batch.specs.declared.refusals.RefusedRun.{RefusedRun}
+use Rattle.batch.specs.Refusals.{Found, check17, check_batch, check_call, check_runs, goes_first, outcome_of, run_of, with_run}
 use Rattle.batch.specs.Runs.{jobs_before, list_of}
 
 -- what was found first decides
-pub with_run_outcome : (r : ℕ) (o : Outcome) → (with_run r o).outcome ≡ o
+pub with_run_outcome : (r : ℕ) (o : Outcome) → outcome_of (with_run r o) ≡ o
 unfolding with_run
-with_run_outcome r Done = refl
-with_run_outcome r (Refused number place) = refl
+with_run_outcome r (Ok u) = refl
+with_run_outcome r (Err w) = refl
 
-pub goes_first_outcome : (a b : Found) → (goes_first a b).outcome ≡ before a.outcome b.outcome
-unfolding goes_first unless before
-goes_first_outcome a b = go a.outcome refl
-  where
-    go : (o : Outcome) → a.outcome ≡ o → (unless o (λ (number place : ℕ). a) b).outcome ≡ before o b.outcome
-    go Done e = refl
-    go (Refused number place) e = e
+pub goes_first_outcome : (a b : Found) → outcome_of (goes_first a b) ≡ before (outcome_of a) (outcome_of b)
+unfolding goes_first before
+goes_first_outcome (Ok u) b = refl
+goes_first_outcome (Err w) b = refl
 
-pub goes_first_later : (a b : Found) → a.outcome ≡ Done → goes_first a b ≡ b
-unfolding goes_first unless
-goes_first_later a b e = rw e
+pub goes_first_later : (a b : Found) → outcome_of a ≡ Done → goes_first a b ≡ b
+unfolding goes_first
+goes_first_later (Ok u) b e = refl
+goes_first_later (Err w) b e = apart (cc)
 
-pub goes_first_keeps : (a b : Found) (number place : ℕ) → a.outcome ≡ Refused number place → goes_first a b ≡ a
-unfolding goes_first unless
-goes_first_keeps a b number place e = rw e
+pub goes_first_keeps : (a b : Found) (number place : ℕ) → outcome_of a ≡ Refused number place → goes_first a b ≡ a
+unfolding goes_first
+goes_first_keeps (Ok u) b number place e = apart (cc)
+goes_first_keeps (Err w) b number place e = refl
+
+-- an outcome tells whether anything was found
+pub found_done : (a : Found) → outcome_of a ≡ Done → a ≡ Ok tt
+found_done (Ok u) e = refl
+found_done (Err w) e = apart (cc)
+
+pub found_refused : (a : Found) (number place : ℕ) → outcome_of a ≡ Refused number place → (w : RefusedRun) × (a ≡ Err w)
+found_refused (Ok u) number place e = apart (cc)
+found_refused (Err w) number place e = (w, refl)
+
+-- as `?` meets them: what it hands back is what was found first, and past it nothing was found
+module _ (first later : Found) {a r : Found} where
+  pub found_stops : {w : RefusedRun} → a ≡ first → a ≡ Err w → IsErrAnd r (λ x. x ≡ w) → r ≡ goes_first first later
+  unfolding goes_first
+  found_stops {w = w} e q h = rw (← e, q) (at r h)
+    where
+      at : (o : Found) → IsErrAnd o (λ x. x ≡ w) → o ≡ Err w
+      at (Ok u) h = absurd h
+      at (Err x) h = rw h
+
+  pub found_goes_on : {u : ⊤} → a ≡ first → a ≡ Ok u → r ≡ later → r ≡ goes_first first later
+  unfolding goes_first
+  found_goes_on e q h = rw (← e, q, h)
 
 module _ (jobs counts : List ℕ) (horizon entries : ℕ) where
   -- what 17 leaves
@@ -72,8 +96,8 @@ module _ (jobs counts : List ℕ) (horizon entries : ℕ) where
       go false e = absurd (never (seventeen_leaves (ap (λ (b : Bool). refuse b 17 0) e)))
 
 module _ (tasks jobs counts : List ℕ) where
-  pub checks_none : check_runs tasks jobs counts 0 ≡ with_run 0 Done
-  unfolding check_runs
+  pub checks_none : check_runs tasks jobs counts 0 ≡ Ok tt
+  unfolding check_runs with_run
   checks_none = refl
 
   pub checks_more : (r : ℕ) → check_runs tasks jobs counts (r + 1) ≡ goes_first (check_runs tasks jobs counts r) (with_run r (check_jobs tasks (list_of jobs counts r)))
@@ -110,7 +134,7 @@ module _ (tasks jobs counts : List ℕ) where
     unfolding check_batch
     batch_runs ok = goes_first_later _ _ (with_run_outcome 0 _ ∙ ok)
 
-    pub batch_passes : (check_batch tasks jobs counts horizon entries).outcome ≡ Done → check_call tasks jobs counts horizon entries ≡ Done
+    pub batch_passes : outcome_of (check_batch tasks jobs counts horizon entries) ≡ Done → check_call tasks jobs counts horizon entries ≡ Done
     unfolding check_batch
     batch_passes ok =
         sym (with_run_outcome 0 (check_call tasks jobs counts horizon entries))
@@ -122,29 +146,51 @@ module _ (tasks jobs counts : List ℕ) where
   abbrev own : ℕ → Outcome
   own r = check_jobs tasks (list_of jobs counts r)
 
-  pub checks_outcome : (n : ℕ) → (check_runs tasks jobs counts n).outcome ≡ ascending n own
+  pub checks_outcome : (n : ℕ) → outcome_of (check_runs tasks jobs counts n) ≡ ascending n own
   unfolding check_runs ascending
   checks_outcome zero = with_run_outcome 0 Done
   checks_outcome (suc n) =
       goes_first_outcome (check_runs tasks jobs counts n) (with_run n (own n)) ∙ ap₂ before (checks_outcome n) (with_run_outcome n (own n))
 
-  pub checks_each : (n : ℕ) → (check_runs tasks jobs counts n).outcome ≡ Done → (r : ℕ) → r < n → own r ≡ Done
+  pub checks_each : (n : ℕ) → outcome_of (check_runs tasks jobs counts n) ≡ Done → (r : ℕ) → r < n → own r ≡ Done
   checks_each n ok r l = ascending_at own n r l (sym (checks_outcome n) ∙ ok)
 
-  pub checks_pass : (n : ℕ) → ((r : ℕ) → r < n → own r ≡ Done) → (check_runs tasks jobs counts n).outcome ≡ Done
+  pub checks_pass : (n : ℕ) → ((r : ℕ) → r < n → own r ≡ Done) → outcome_of (check_runs tasks jobs counts n) ≡ Done
   unfolding check_runs before
   checks_pass zero each = with_run_outcome 0 Done
   checks_pass (suc n) each =
       goes_first_outcome (check_runs tasks jobs counts n) (with_run n (own n))
       ∙ ap₂ before (checks_pass n (λ r l. each r (omega arith))) (with_run_outcome n (own n) ∙ each n (omega arith))
 
-  pub checks_zero : (n : ℕ) → (check_runs tasks jobs counts n).outcome ≡ Done → (check_runs tasks jobs counts n).run ≡ 0
+  pub checks_zero : (n : ℕ) → outcome_of (check_runs tasks jobs counts n) ≡ Done → (run_of (check_runs tasks jobs counts n)) ≡ 0
   unfolding check_runs with_run
   checks_zero zero ok = refl
   checks_zero (suc n) ok =
       let both = sym (goes_first_outcome (check_runs tasks jobs counts n) (with_run n (own n))) ∙ ok in
-      let last = sym (with_run_outcome n (own n)) ∙ before_second (check_runs tasks jobs counts n).outcome _ both in
-      ap (λ (x : Found). x.run) (goes_first_later (check_runs tasks jobs counts n) (with_run n (own n)) (before_first _ (with_run n (own n)).outcome both) ∙ ap (with_run n) last)
+      let last = sym (with_run_outcome n (own n)) ∙ before_second (outcome_of (check_runs tasks jobs counts n)) _ both in
+      ap run_of (goes_first_later (check_runs tasks jobs counts n) (with_run n (own n)) (before_first _ (outcome_of (with_run n (own n))) both) ∙ ap (with_run n) last)
+
+  -- a loop goes on only while nothing is found, and stops at the first run that is refused
+  pub runs_go_on : (r : ℕ) {found : Found} {u : ⊤} → check_runs tasks jobs counts r ≡ Ok tt → found ≡ with_run r (own r) → found ≡ Ok u → check_runs tasks jobs counts (r + 1) ≡ Ok tt
+  unfolding goes_first
+  runs_go_on r none e q = rw (checks_more tasks jobs counts r, none, ← e, q)
+
+  kept_from : (n r : ℕ) {w : RefusedRun} → r < n → check_runs tasks jobs counts r ≡ Ok tt → with_run r (own r) ≡ Err w → check_runs tasks jobs counts n ≡ Err w
+  unfolding check_runs goes_first
+  kept_from zero r l none e = absurd (not-suc-le-zero l)
+  kept_from (suc n) r {w = w} l none e = go (last_or_below n r l) (λ m. kept_from n r m none e)
+    where
+      go : (r ≡ n) ⊎ (r < n) → (r < n → check_runs tasks jobs counts n ≡ Err w) → goes_first (check_runs tasks jobs counts n) (with_run n (own n)) ≡ Err w
+      go (inl q) below = rw (← q, none) e
+      go (inr m) below = rw (below m)
+
+  pub runs_stop : (n r : ℕ) {found result : Found} {w : RefusedRun} → r < n → check_runs tasks jobs counts r ≡ Ok tt → found ≡ with_run r (own r) → found ≡ Err w
+      → IsErrAnd result (λ x. x ≡ w) → result ≡ check_runs tasks jobs counts n
+  runs_stop n r {result = result} {w = w} l none e q h = at result h ∙ sym (kept_from n r l none (sym e ∙ q))
+    where
+      at : (o : Found) → IsErrAnd o (λ x. x ≡ w) → o ≡ Err w
+      at (Ok u) h = absurd h
+      at (Err x) h = rw h
 
   -- run r is the first that is refused, of n
   pub record FirstFound (n number place r : ℕ) : Type 0 where
@@ -152,23 +198,23 @@ module _ (tasks jobs counts : List ℕ) where
     pub here : own r ≡ Refused number place
     pub earlier : (i : ℕ) → i < r → own i ≡ Done
 
-  pub checks_run : (n number place : ℕ) → (check_runs tasks jobs counts n).outcome ≡ Refused number place → FirstFound n number place (check_runs tasks jobs counts n).run
+  pub checks_run : (n number place : ℕ) → outcome_of (check_runs tasks jobs counts n) ≡ Refused number place → FirstFound n number place (run_of (check_runs tasks jobs counts n))
   unfolding check_runs with_run
   checks_run zero number place says = apart (cc)
-  checks_run (suc n) number place says = go (check_runs tasks jobs counts n).outcome refl (checks_run n)
+  checks_run (suc n) number place says = go (outcome_of (check_runs tasks jobs counts n)) refl (checks_run n)
     where
-      go : (o : Outcome) → (check_runs tasks jobs counts n).outcome ≡ o
-          → ((x y : ℕ) → (check_runs tasks jobs counts n).outcome ≡ Refused x y → FirstFound n x y (check_runs tasks jobs counts n).run)
-          → FirstFound (suc n) number place (goes_first (check_runs tasks jobs counts n) (with_run n (own n))).run
-      go Done e ih =
+      go : (o : Outcome) → outcome_of (check_runs tasks jobs counts n) ≡ o
+          → ((x y : ℕ) → outcome_of (check_runs tasks jobs counts n) ≡ Refused x y → FirstFound n x y (run_of (check_runs tasks jobs counts n)))
+          → FirstFound (suc n) number place (run_of (goes_first (check_runs tasks jobs counts n) (with_run n (own n))))
+      go (Ok u) e ih =
           let last = goes_first_later (check_runs tasks jobs counts n) (with_run n (own n)) e in
-          let refuses = sym (with_run_outcome n (own n)) ∙ ap (λ (x : Found). x.outcome) (sym last) ∙ says in
-          let at : (goes_first (check_runs tasks jobs counts n) (with_run n (own n))).run ≡ n = ap (λ (x : Found). x.run) (last ∙ ap (with_run n) refuses) in
+          let refuses = sym (with_run_outcome n (own n)) ∙ ap outcome_of (sym last) ∙ says in
+          let at : (run_of (goes_first (check_runs tasks jobs counts n) (with_run n (own n)))) ≡ n = ap run_of (last ∙ ap (with_run n) refuses) in
           subst (FirstFound (suc n) number place) (sym at) (record { there = omega arith; here = refuses; earlier = checks_each n e })
-      go (Refused x y) e ih =
-          let kept = goes_first_keeps (check_runs tasks jobs counts n) (with_run n (own n)) x y e in
-          let w = ih number place (ap (λ (x : Found). x.outcome) (sym kept) ∙ says) in
-          subst (FirstFound (suc n) number place) (ap (λ (x : Found). x.run) (sym kept))
+      go (Err r) e ih =
+          let kept = goes_first_keeps (check_runs tasks jobs counts n) (with_run n (own n)) r.number r.place e in
+          let w = ih number place (ap outcome_of (sym kept) ∙ says) in
+          subst (FirstFound (suc n) number place) (ap run_of (sym kept))
           (record { there = omega (arith, w.there); here = w.here; earlier = w.earlier })
 
 -- not from 5 to 8

@@ -7,13 +7,15 @@ use native.Mathlib.Nat.{le_of_eq, le_trans, mul-le-mul_right, not-suc-le-zero, s
 use native.Mathlib.Numerals.{add-one}
 use native.Mathlib.Omega.{arith}
 use lib.ListN.{drop, get_or, get_or-replicate, length, length-append, length-drop, length-replicate, length-take, replicate, set, take}
-use lib.Seq.{drop-append-le, drop_at, drop-drop, drop-length, take-add, take_all, take-append-le, take_at}
+use lib.Seq.{drop-append-le, drop_at, drop-drop, drop-length, take-add, take_all, take-append-le, take_at, take-length}
 use borrow.Author.Tests.{le-ltb, lt-ltb}
 use borrow.Rule.Slice.PartMut.{put_mid}
+use Rattle.std.proofs.lemmas.Grind.{get_or_default_zero}
+use Rattle.std.proofs.lemmas.List.Sums.{sum_by-le, sum_by_more}
 use Rattle.bits.proofs.Laws.Arrays.{Written, written_all, written_more, written_none}
 use Rattle.bits.proofs.Laws.Below.{get_or_list, last_or_below}
-use Rattle.tables.specs.declared.answers.Outcome.{Outcome}
-use Rattle.tables.specs.declared.answers.Outcome.TheVariants.{Done, Refused}
+use Rattle.std.specs.Prelude.{Ok, Err, sum}
+use Rattle.tables.specs.Outcomes.{Outcome}
 use Rattle.tables.specs.Refusals.{check_schedule}
 use Rattle.tables.proofs.Laws.Accepted.{accepted}
 use Rattle.zsrm.specs.declared.answers.Ran.{Ran}
@@ -47,6 +49,22 @@ module _ (counts : List ℕ) where
       go (inl e) ih = rw e (omega arith)
       go (inr m) ih = omega (arith, ih m)
 
+  -- and the jobs of all lists are the sum of the counts, each of them below 2^32
+  jobs_take : (n : ℕ) → n ≤ length counts → jobs_before counts n ≡ sum (take n counts)
+  unfolding jobs_before
+  jobs_take zero l = refl
+  jobs_take (suc n) l = rw (jobs_take n (omega arith)) (sym (rw (← add-one) (sum_by_more (λ x. x) counts n 0 (omega arith))))
+
+  pub jobs_all : jobs_before counts (length counts) ≡ sum counts
+  jobs_all = jobs_take (length counts) (omega arith) ∙ ap sum (take-length counts)
+
+pub counts_most : (counts : List ℕ) → length counts ≤ 32 → ((k : ℕ) → get_or counts k 0 < 4294967296) → sum counts ≤ 137438953440
+counts_most counts few small =
+    omega (
+      arith,
+      sum_by-le (λ x. x) 4294967295 counts (λ k d l. omega (arith, get_or_default_zero counts k d l, small k)),
+    )
+
 -- where list r lies, as a loop over the runs finds it
 module _ (jobs counts : List ℕ) where
   pub list_ends : jobs_before counts (length counts) * 3 ≡ length jobs → (r : ℕ) → r < length counts → jobs_before counts r * 3 + get_or counts r 0 * 3 ≤ length jobs
@@ -68,9 +86,9 @@ pub length_ran : (g : Given) (tie : Tie) (horizon : ℕ) (lent : List ℕ) → l
 length_ran g tie horizon lent = go (check_schedule g.lists horizon (length lent)) refl
   where
     go : (o : Outcome) → check_schedule g.lists horizon (length lent) ≡ o → length (run_schedule g tie horizon lent) ≡ length lent
-    go Done e =
+    go (Ok u) e =
         ap length (run_given_law g tie horizon lent e).1 ∙ length_run g tie horizon ∙ sym (accepted g.lists horizon (length lent) e).whole
-    go (Refused number place) e = ap length (sym (run_keeps g tie horizon lent number place e))
+    go (Err w) e = ap length (sym (run_keeps g tie horizon lent w.number w.place e))
 
 module _ (o : Offer) (lent : List ℕ) where
   pub length_place : (r : ℕ) → r * o.horizon + o.horizon ≤ length lent → length (place_of o.horizon lent r) ≡ o.horizon

@@ -9,15 +9,14 @@ use native.Mathlib.Omega.{arith}
 use lib.ListN.{get_or, length, length-append, get_or-append}
 use lib.Seq.{get_or-append-add, length-sets, sets}
 use borrow.Author.Tests.{eq-eqb}
+use Rattle.std.specs.Prelude.{Option, Some, None}
 use Rattle.bits.proofs.Laws.Below.{list_same}
 use Rattle.bits.proofs.Laws.Lists.{list_of, sets_above, sets_below}
-use Rattle.tables.specs.declared.answers.Outcome.TheVariants.{Done}
+use Rattle.tables.specs.Outcomes.{Done}
 use Rattle.tables.specs.Bytes.{bytes_of, number_at}
 use Rattle.tables.specs.Refusals.{before}
 use Rattle.tables.proofs.Laws.Bytes.{length_bytes, read_back}
 use Rattle.tables.proofs.Laws.Refusals.{unless_done}
-use Rattle.chain.specs.declared.layout.Known.{Known}
-use Rattle.chain.specs.declared.layout.Known.TheVariants.{Is, Unknown}
 use Rattle.chain.specs.declared.layout.Layout.{Layout}
 use Rattle.chain.specs.declared.layout.Layout.TheVariants.{One, Two}
 use Rattle.chain.specs.declared.trailer.Trailer.{Trailer}
@@ -36,7 +35,7 @@ abbrev pub Within32 : List ℕ → Type 0
 Within32 list = (i : ℕ) → get_or list i 0 < 4294967296
 
 -- a reader knows a layout of ours, or does not
-pub own_known : (reader layout : Layout) → (known reader (number_of layout) ≡ Is layout) ⊎ (known reader (number_of layout) ≡ Unknown)
+pub own_known : (reader layout : Layout) → (known reader (number_of layout) ≡ Some layout) ⊎ (known reader (number_of layout) ≡ None)
 unfolding known
 own_known One One = inl refl
 own_known One Two = inr refl
@@ -115,7 +114,7 @@ module _ (layout : Layout) (file : List ℕ) (used : ℕ) (table : List ℕ) (w 
           let placed : last_place used ≡ none → ⊥ = λ e. omega (arith, w.space.placed, whole.ends) in
           omega (arith, end_of_place (last_place used) placed, whole.ends)
 
-  fills : (k : Known) → (k ≡ Is layout) ⊎ (k ≡ Unknown) → misfits k trailer at ≡ false
+  fills : (k : Option Layout) → (k ≡ Some layout) ⊎ (k ≡ None) → misfits k trailer at ≡ false
   unfolding misfits new_trailer
   fills k (inl e) =
       let whole = whole_tasks layout table w.numbers in
@@ -137,20 +136,20 @@ module _ (layout : Layout) (file : List ℕ) (used : ℕ) (table : List ℕ) (w 
       ∙ ap (read_trailer reader after) trailer_back
 
   -- a reader that knows the layout is shown the table
-  pub read_known : (reader : Layout) → known reader (number_of layout) ≡ Is layout → Within32 table → read_answer reader after end at ≡ shown trailer table
+  pub read_known : (reader : Layout) → known reader (number_of layout) ≡ Some layout → Within32 table → read_answer reader after end at ≡ shown trailer table
   unfolding read_trailer read_table check_shown table_of new_trailer
   read_known reader knows small =
       let whole = whole_tasks layout table w.numbers in
       let same : numbers_from after used (length table / width layout * width layout) ≡ table = ap (numbers_from after used) whole ∙ table_back in
       read_new reader
-      ∙ ap (λ (k : Known). read_table k after trailer) knows
+      ∙ ap (λ (k : Option Layout). read_table k after trailer) knows
       ∙ unless_done (passed_by trailer) (shown trailer (numbers_from after used (length table / width layout * width layout)))
       (check_table layout (numbers_from after used (length table / width layout * width layout)))
       (ap (check_table layout) same ∙ w.numbers)
       ∙ ap (shown trailer) same
 
   -- and one that does not, 23
-  pub read_unknown : (reader : Layout) → known reader (number_of layout) ≡ Unknown → read_answer reader after end at ≡ passed_by trailer 23 (number_of layout)
+  pub read_unknown : (reader : Layout) → known reader (number_of layout) ≡ None → read_answer reader after end at ≡ passed_by trailer 23 (number_of layout)
   unfolding new_trailer
   read_unknown reader not_known =
-      read_new reader ∙ sym (trailer_unknown reader after trailer Unknown (sym not_known) refl)
+      read_new reader ∙ sym (trailer_unknown reader after trailer None (sym not_known) refl)

@@ -9,11 +9,10 @@ use lib.ListN.{length}
 use lib.Seq.{sets}
 use borrow.Author.Tests.{eq-eqb, lt-ltb, ltb-false, ltb-true, ne_eqb}
 use Rattle.bits.proofs.Laws.Bools.{by_cond, or_left_false, or_right_false, same_test}
-use Rattle.tables.specs.declared.answers.Outcome.{Outcome}
-use Rattle.tables.specs.declared.answers.Outcome.TheVariants.{Done, Refused}
+use Rattle.std.specs.Prelude.{Ok}
+use Rattle.tables.specs.Outcomes.{Outcome, Done, Refused}
 use Rattle.tables.proofs.Laws.Bytes.{put_behind}
 use Rattle.tables.proofs.Laws.Refusals.{refuse_fine, unless_done, unless_refused, all_done, first_of}
-use Rattle.chain.specs.declared.answers.Appended.TheVariants as appends
 use Rattle.chain.specs.declared.layout.Layout.{Layout}
 use Rattle.chain.specs.declared.layout.Layout.TheVariants.{Two}
 use Rattle.chain.specs.Answers.{append_answer, append_file, new_trailer}
@@ -104,20 +103,20 @@ module _ (layout : Layout) (file : List ℕ) (used : ℕ) (table : List ℕ) whe
     pub found_accepted : found ≡ Done → Accepted
     found_accepted ok = accepted (sym is ∙ ok)
 
-    pub answers_used : (end : ℕ) → found ≡ Done → end ≡ end_after used (length table) → appends.Used end ≡ append_answer layout file used table
+    pub answers_used : (end : ℕ) → found ≡ Done → end ≡ end_after used (length table) → Ok end ≡ append_answer layout file used table
     unfolding append_answer
     answers_used end ok e =
-        ap appends.Used e ∙ sym (unless_done appends.Refused (appends.Used (end_after used (length table))) (check_append layout file used table) (sym is ∙ ok))
+        ap (λ (n : ℕ). Ok n) e ∙ sym (unless_done Refused (Ok (end_after used (length table))) (check_append layout file used table) (sym is ∙ ok))
 
     pub writes_both : (after : List ℕ) → found ≡ Done → after ≡ sets file used (bytes_of 4 appended_numbers) → after ≡ append_file layout file used table
     unfolding append_file
     writes_both after ok e =
         e ∙ sym (unless_done (λ (number place : ℕ). file) (sets file used (bytes_of 4 appended_numbers)) (check_append layout file used table) (sym is ∙ ok))
 
-    pub answers_refused : (number place : ℕ) → found ≡ Refused number place → appends.Refused number place ≡ append_answer layout file used table
+    pub answers_refused : (number place : ℕ) → found ≡ Refused number place → Refused number place ≡ append_answer layout file used table
     unfolding append_answer
     answers_refused number place e =
-        sym (unless_refused appends.Refused (appends.Used (end_after used (length table))) (check_append layout file used table) number place (sym is ∙ e))
+        sym (unless_refused Refused (Ok (end_after used (length table))) (check_append layout file used table) number place (sym is ∙ e))
 
     pub writes_nothing : (number place : ℕ) → found ≡ Refused number place → file ≡ append_file layout file used table
     unfolding append_file

@@ -10,22 +10,19 @@ use native.Mathlib.Omega.{arith}
 use lib.Dec.{lit≤, ltb}
 use lib.ListN.{get_or, length, replicate, get_or-eq_default}
 use borrow.Author.Tests.{eq-eqb, eqb-true, le-ltb, not-false}
+use Rattle.std.specs.Prelude.{Option, Some, None, Result, Ok, Err}
 use Rattle.bits.specs.Below.{list_from}
 use Rattle.bits.proofs.Laws.Below.{get_or_list, length_list_from}
 use Rattle.bits.proofs.Laws.Bools.{apart}
 use Rattle.bits.proofs.Readings.{lt_reads, or_reads}
-use Rattle.tables.specs.declared.answers.Outcome.{Outcome}
-use Rattle.tables.specs.declared.answers.Outcome.TheVariants.{Done, Refused}
+use Rattle.tables.specs.declared.answers.Refusal.{Refusal}
+use Rattle.tables.specs.Outcomes.{Outcome, Done, Refused}
 use Rattle.tables.specs.Bytes.{number_at}
 use Rattle.tables.specs.Refusals.{before, check_tasks, refuse, unless}
 use Rattle.tables.proofs.Laws.Bytes.{number4}
-use Rattle.tables.proofs.Laws.Refusals.{Numbered, numbered_before, numbered_refuse, only_refuse, refused_number, tasks_numbered, Other, first_of, other_none, own_refused}
+use Rattle.tables.proofs.Laws.Refusals.{Numbered, numbered_before, numbered_refuse, only_refuse, refused_number, refused_same, tasks_numbered, Other, first_of, other_none, own_refused}
 use Rattle.tables.proofs.Readings.{before_refused, refuse_reads}
-use Rattle.chain.specs.declared.answers.Appended.{Appended}
-use Rattle.chain.specs.declared.answers.Appended.TheVariants as appends
 use Rattle.chain.specs.declared.answers.Read.{Read}
-use Rattle.chain.specs.declared.layout.Known.{Known}
-use Rattle.chain.specs.declared.layout.Known.TheVariants.{Is, Unknown}
 use Rattle.chain.specs.declared.layout.Layout.{Layout}
 use Rattle.chain.specs.declared.layout.Layout.TheVariants.{One, Two}
 use Rattle.chain.specs.declared.trailer.Trailer.{Trailer}
@@ -99,7 +96,7 @@ whole_22 reader file used at w number place e =
     ((before_refused (check21 (length file) used at) (check22 reader (trailer_at file at) at) number place).0 e)
 
 -- the numbers of a table fill the bytes
-pub fills_known : (layout : Layout) (t : Trailer) (at : ℕ) → misfits (Is layout) t at ≡ false ↔ t.start + t.count * width layout * 4 ≡ at
+pub fills_known : (layout : Layout) (t : Trailer) (at : ℕ) → misfits (Some layout) t at ≡ false ↔ t.start + t.count * width layout * 4 ≡ at
 unfolding misfits
 fills_known layout t at = (
   λ e. eqb-true (t.start + t.count * width layout * 4) at (not-false _ e),
@@ -124,7 +121,7 @@ table_numbered Two table =
 
 -- ## What is read
 
-table_empty : (k : Known) (file : List ℕ) (t : Trailer) (number place : ℕ) → (read_table k file t).outcome ≡ Refused number place
+table_empty : (k : Option Layout) (file : List ℕ) (t : Trailer) (number place : ℕ) → (read_table k file t).outcome ≡ Refused number place
     → ((read_table k file t).count ≡ 0) × ((read_table k file t).fields ≡ replicate 128 0)
 unfolding read_table passed_by shown unless
 table_empty k file t number place = go (check_shown k file t)
@@ -132,29 +129,29 @@ table_empty k file t number place = go (check_shown k file t)
     go : (o : Outcome) → (unless o (passed_by t) (shown t (table_of k file t))).outcome ≡ Refused number place
         → ((unless o (passed_by t) (shown t (table_of k file t))).count ≡ 0) × ((unless o (passed_by t) (shown t (table_of k file t))).fields ≡ replicate 128 0)
     go Done e = apart (cc)
-    go (Refused n p) e = (refl, refl)
+    go (Err w) e = (refl, refl)
 
 -- a trailer that shows its table is of a layout the reader knows, and its table passes
-table_done : (k : Known) (file : List ℕ) (t : Trailer) → (read_table k file t).outcome ≡ Done
-    → (layout : Layout) × (k ≡ Is layout) × (check_table layout (table_of (Is layout) file t) ≡ Done) × (read_table k file t ≡ shown t (table_of (Is layout) file t))
+table_done : (k : Option Layout) (file : List ℕ) (t : Trailer) → (read_table k file t).outcome ≡ Done
+    → (layout : Layout) × (k ≡ Some layout) × (check_table layout (table_of (Some layout) file t) ≡ Done) × (read_table k file t ≡ shown t (table_of (Some layout) file t))
 unfolding read_table check_shown passed_by shown unless
-table_done Unknown file t e = apart (cc)
-table_done (Is layout) file t e = go (check_table layout (table_of (Is layout) file t)) refl e
+table_done None file t e = apart (cc)
+table_done (Some layout) file t e = go (check_table layout (table_of (Some layout) file t)) refl e
   where
-    go : (o : Outcome) → check_table layout (table_of (Is layout) file t) ≡ o → (unless o (passed_by t) (shown t (table_of (Is layout) file t))).outcome ≡ Done
-        → (own : Layout) × (Is layout ≡ Is own) × (check_table own (table_of (Is own) file t) ≡ Done) × (unless o (passed_by t) (shown t (table_of (Is layout) file t)) ≡ shown t (table_of (Is own) file t))
+    go : (o : Outcome) → check_table layout (table_of (Some layout) file t) ≡ o → (unless o (passed_by t) (shown t (table_of (Some layout) file t))).outcome ≡ Done
+        → (own : Layout) × (Some layout ≡ Some own) × (check_table own (table_of (Some own) file t) ≡ Done) × (unless o (passed_by t) (shown t (table_of (Some layout) file t)) ≡ shown t (table_of (Some own) file t))
     go Done q e = (layout, refl, q, refl)
-    go (Refused n p) q e = apart (cc)
+    go (Err w) q e = apart (cc)
 
 -- what a table is refused with
-table_numbers : (k : Known) (file : List ℕ) (t : Trailer) (number place : ℕ) → (read_table k file t).outcome ≡ Refused number place → (number ≡ 23) ⊎ TwoToFour number
+table_numbers : (k : Option Layout) (file : List ℕ) (t : Trailer) (number place : ℕ) → (read_table k file t).outcome ≡ Refused number place → (number ≡ 23) ⊎ TwoToFour number
 unfolding read_table check_shown passed_by shown unless
-table_numbers Unknown file t number place e = let same : 23 ≡ number = cc in inl (sym same)
-table_numbers (Is layout) file t number place e = inr (go (check_table layout (table_of (Is layout) file t)) (table_numbered layout (table_of (Is layout) file t)) e)
+table_numbers None file t number place e = inl (sym (refused_same 23 t.layout number place e).0)
+table_numbers (Some layout) file t number place e = inr (go (check_table layout (table_of (Some layout) file t)) (table_numbered layout (table_of (Some layout) file t)) e)
   where
-    go : (o : Outcome) → Numbered TwoToFour o → (unless o (passed_by t) (shown t (table_of (Is layout) file t))).outcome ≡ Refused number place → TwoToFour number
+    go : (o : Outcome) → Numbered TwoToFour o → (unless o (passed_by t) (shown t (table_of (Some layout) file t))).outcome ≡ Refused number place → TwoToFour number
     go Done w e = apart (cc)
-    go (Refused n p) w e = let same : n ≡ number = cc in subst TwoToFour same w
+    go (Err r) w e = let same : r.number ≡ number = cc in subst TwoToFour same w
 
 -- numbers that are not used are 0
 pub padded_zero : (room : ℕ) (list : List ℕ) (i : ℕ) → length list ≤ i → get_or (padded room list) i 0 ≡ 0
@@ -177,8 +174,8 @@ module _ (reader : Layout) (file : List ℕ) (used at : ℕ) where
           let is = read_trailer_law reader file used at Done (sym q) refl in
           let w = table_empty (known reader t.layout) file t number place (ap (λ (r : Read). r.outcome) (sym is) ∙ e) in
           (ap (λ (r : Read). r.count) is ∙ w.0, ap (λ (r : Read). r.fields) is ∙ w.1)
-      go (Refused n p) q =
-          let is = read_nothing reader file used at (Refused n p) (sym q) n p refl in
+      go (Err r) q =
+          let is = read_nothing reader file used at (Err r) (sym q) r.number r.place refl in
           (ap (λ (r : Read). r.count) is, ap (λ (r : Read). r.fields) is)
 
   -- where the trailer is whole, every other refusal
@@ -192,10 +189,10 @@ module _ (reader : Layout) (file : List ℕ) (used at : ℕ) where
           let t = trailer_at file at in
           let is = read_trailer_law reader file used at Done (sym q) refl in
           inr (table_numbers (known reader t.layout) file t number place (ap (λ (r : Read). r.outcome) (sym is) ∙ e))
-      go (Refused n p) q =
-          let is = ap (λ (r : Read). r.outcome) (sym (read_nothing reader file used at (Refused n p) (sym q) n p refl)) ∙ e in
-          let same : n ≡ number = cc in
-          inl (sym same ∙ whole_22 reader file used at w n p q)
+      go (Err refusal) q =
+          let is = ap (λ (r : Read). r.outcome) (sym (read_nothing reader file used at (Err refusal) (sym q) refusal.number refusal.place refl)) ∙ e in
+          let same : refusal.number ≡ number = cc in
+          inl (sym same ∙ whole_22 reader file used at w refusal.number refusal.place q)
 
   pub whole_not_21 : WholeTrailer (length file) used at → (place : ℕ) → (read_at reader file used at).outcome ≡ Refused 21 place → ⊥
   whole_not_21 w place e = other 21 refl (whole_numbers w 21 place e)
@@ -209,9 +206,9 @@ module _ (reader : Layout) (file : List ℕ) (used at : ℕ) where
   pub record TableRead : Type 0 where
     pub checks : check_trailer reader file used at ≡ Done
     pub layout : Layout
-    pub knows : known reader (trailer_at file at).layout ≡ Is layout
-    pub accepted : check_table layout (table_of (Is layout) file (trailer_at file at)) ≡ Done
-    pub is : read_at reader file used at ≡ shown (trailer_at file at) (table_of (Is layout) file (trailer_at file at))
+    pub knows : known reader (trailer_at file at).layout ≡ Some layout
+    pub accepted : check_table layout (table_of (Some layout) file (trailer_at file at)) ≡ Done
+    pub is : read_at reader file used at ≡ shown (trailer_at file at) (table_of (Some layout) file (trailer_at file at))
 
   pub table_read : (read_at reader file used at).outcome ≡ Done → TableRead
   unfolding read_trailer nothing
@@ -223,19 +220,19 @@ module _ (reader : Layout) (file : List ℕ) (used at : ℕ) where
           let is = read_trailer_law reader file used at Done (sym q) refl in
           let w = table_done (known reader t.layout) file t (ap (λ (r : Read). r.outcome) (sym is) ∙ e) in
           record { checks = q; layout = w.0; knows = w.1; accepted = w.2; is = is ∙ w.3 }
-      go (Refused n p) q =
-          let is = ap (λ (r : Read). r.outcome) (sym (read_nothing reader file used at (Refused n p) (sym q) n p refl)) in
+      go (Err refusal) q =
+          let is = ap (λ (r : Read). r.outcome) (sym (read_nothing reader file used at (Err refusal) (sym q) refusal.number refusal.place refl)) in
           apart (cc)
 
   -- the fields behind the table's are 0
   unused : (read_at reader file used at).outcome ≡ Done
-      → (layout : Layout) × (known reader (read_at reader file used at).layout ≡ Is layout)
+      → (layout : Layout) × (known reader (read_at reader file used at).layout ≡ Some layout)
       × ((i : ℕ) → (read_at reader file used at).count * width layout ≤ i → get_or (read_at reader file used at).fields i 0 ≡ 0)
   unfolding shown table_of
   unused e =
       let w = table_read e in
       let t = trailer_at file at in
-      let table = table_of (Is w.layout) file t in (
+      let table = table_of (Some w.layout) file t in (
         w.layout,
         ap (λ (r : Read). known reader r.layout) w.is ∙ w.knows,
         λ i l. ap (λ (r : Read). get_or r.fields i 0) w.is
@@ -251,11 +248,11 @@ module _ (reader : Layout) (file : List ℕ) (used at : ℕ) (r : Read) (either 
       (λ p. read_empty reader file used p number place) at r either
 
   pub either_unused : r.outcome ≡ Done
-      → (layout : Layout) × (known reader r.layout ≡ Is layout) × ((i : ℕ) → r.count * width layout ≤ i → get_or r.fields i 0 ≡ 0)
+      → (layout : Layout) × (known reader r.layout ≡ Some layout) × ((i : ℕ) → r.count * width layout ≤ i → get_or r.fields i 0 ≡ 0)
   unfolding nothing
   either_unused =
       of_either reader file used
-      (λ a. a.outcome ≡ Done → (layout : Layout) × (known reader a.layout ≡ Is layout) × ((i : ℕ) → a.count * width layout ≤ i → get_or a.fields i 0 ≡ 0))
+      (λ a. a.outcome ≡ Done → (layout : Layout) × (known reader a.layout ≡ Some layout) × ((i : ℕ) → a.count * width layout ≤ i → get_or a.fields i 0 ≡ 0))
       (λ e. apart (cc)) (λ p. unused reader file used p) at r either
 
 -- ## An append
@@ -332,11 +329,11 @@ module _ (layout : Layout) (file : List ℕ) (used : ℕ) (table : List ℕ) whe
 
   -- past the last place that an end may have, no table is taken
   pub past_numbers : 4294967295 < used → used ≤ length file
-      → (number : ℕ) × (place : ℕ) × (append_answer layout file used table ≡ appends.Refused number place) × ((number ≡ 22) ⊎ TwoToFour number ⊎ (number ≡ 24))
+      → (number : ℕ) × (place : ℕ) × (append_answer layout file used table ≡ Refused number place) × ((number ≡ 22) ⊎ TwoToFour number ⊎ (number ≡ 24))
   past_numbers past fits = go (append_answer layout file used table) refl
     where
-      go : (a : Appended) → append_answer layout file used table ≡ a
-          → (number : ℕ) × (place : ℕ) × (append_answer layout file used table ≡ appends.Refused number place) × ((number ≡ 22) ⊎ TwoToFour number ⊎ (number ≡ 24))
-      go (appends.Used e) says = absurd (let space = (took layout file used table e says).checks.space.placed in omega arith)
-      go (appends.Refused number place) says =
-          (number, place, says, append_numbers (λ some. record { fits = fits; ends = omega arith }) number place (refused_by layout file used table number place says))
+      go : (a : Result ℕ Refusal) → append_answer layout file used table ≡ a
+          → (number : ℕ) × (place : ℕ) × (append_answer layout file used table ≡ Refused number place) × ((number ≡ 22) ⊎ TwoToFour number ⊎ (number ≡ 24))
+      go (Ok e) says = absurd (let space = (took layout file used table e says).checks.space.placed in omega arith)
+      go (Err w) says =
+          (w.number, w.place, says, append_numbers (λ some. record { fits = fits; ends = omega arith }) w.number w.place (refused_by layout file used table w.number w.place says))

@@ -7,13 +7,11 @@ use native.Mathlib.Decide.{ℕ_discrete}
 use native.Mathlib.Omega.{arith}
 use lib.ListN.{take}
 use borrow.Author.Tests.{eq-eqb, ne_eqb}
-use Rattle.tables.specs.declared.answers.Outcome.{Outcome}
-use Rattle.tables.specs.declared.answers.Outcome.TheVariants.{Done, Refused}
+use Rattle.std.specs.Prelude.{Option, Some, None}
+use Rattle.tables.specs.Outcomes.{Outcome, Done, Refused}
 use Rattle.tables.specs.Refusals.{unless}
 use Rattle.tables.proofs.Laws.Refusals.{unless_done, unless_refused}
 use Rattle.chain.specs.declared.answers.Read.{Read}
-use Rattle.chain.specs.declared.layout.Known.{Known}
-use Rattle.chain.specs.declared.layout.Known.TheVariants.{Is, Unknown}
 use Rattle.chain.specs.declared.layout.Layout.{Layout}
 use Rattle.chain.specs.declared.trailer.Trailer.{Trailer}
 use Rattle.chain.specs.Answers.{last_answer, nothing, passed_by, read_answer, read_at, read_table, read_trailer, shown}
@@ -30,20 +28,20 @@ module _ (layout : Layout) (file : List ℕ) (t : Trailer) where
   abbrev table : List ℕ
   table = numbers_from file t.start (t.count * width layout)
 
-  table_checked : check_shown (Is layout) file t ≡ check_table layout table
+  table_checked : check_shown (Some layout) file t ≡ check_table layout table
   unfolding check_shown table_of
   table_checked = refl
 
   -- over 16 tasks, whatever their numbers
-  pub table_many : 16 < t.count → passed_by t 2 0 ≡ read_table (Is layout) file t
+  pub table_many : 16 < t.count → passed_by t 2 0 ≡ read_table (Some layout) file t
   unfolding read_table
   table_many many =
-      sym (unless_refused (passed_by t) (shown t (table_of (Is layout) file t)) (check_shown (Is layout) file t) 2 0
+      sym (unless_refused (passed_by t) (shown t (table_of (Some layout) file t)) (check_shown (Some layout) file t) 2 0
       (table_checked ∙ many_refused layout table t.count (length_numbers file t.start (t.count * width layout)) many))
 
   -- the table was read to room for 128 numbers, and that part of it checked
   module _ (n : ℕ) (fields : List ℕ) (size : n ≡ t.count * width layout) (few : n ≤ 128) (is : fields ≡ padded 128 (numbers_from file t.start n)) where
-    checked_is : (found : Outcome) → found ≡ check_table layout (take n fields) → check_shown (Is layout) file t ≡ found
+    checked_is : (found : Outcome) → found ≡ check_table layout (take n fields) → check_shown (Some layout) file t ≡ found
     checked_is found e =
         let list = numbers_from file t.start n in
         let part : take n fields ≡ list = ap (take n) is ∙ ap (λ (k : ℕ). take k (padded 128 list)) (sym (length_numbers file t.start n))
@@ -51,27 +49,27 @@ module _ (layout : Layout) (file : List ℕ) (t : Trailer) where
         table_checked ∙ ap (λ (k : ℕ). check_table layout (numbers_from file t.start k)) (sym size) ∙ ap (check_table layout) (sym part) ∙ sym e
 
     pub fields_shown : (found : Outcome) → found ≡ check_table layout (take n fields) → found ≡ Done
-        → ◌≡◌ {A = Read} (record { outcome = Done; layout = t.layout; before = t.before; count = t.count; fields = fields }) (read_table (Is layout) file t)
+        → ◌≡◌ {A = Read} (record { outcome = Done; layout = t.layout; before = t.before; count = t.count; fields = fields }) (read_table (Some layout) file t)
     unfolding read_table shown table_of
     fields_shown found e ok =
         ap (λ (fs : List ℕ). record { outcome = Done; layout = t.layout; before = t.before; count = t.count; fields = fs })
         (is ∙ ap (λ (k : ℕ). padded 128 (numbers_from file t.start k)) size)
-        ∙ sym (unless_done (passed_by t) (shown t (table_of (Is layout) file t)) (check_shown (Is layout) file t) (checked_is found e ∙ ok))
+        ∙ sym (unless_done (passed_by t) (shown t (table_of (Some layout) file t)) (check_shown (Some layout) file t) (checked_is found e ∙ ok))
 
     pub table_passed : (found : Outcome) (number place : ℕ) → found ≡ check_table layout (take n fields) → found ≡ Refused number place
-        → passed_by t number place ≡ read_table (Is layout) file t
+        → passed_by t number place ≡ read_table (Some layout) file t
     unfolding read_table
     table_passed found number place e refuses =
-        sym (unless_refused (passed_by t) (shown t (table_of (Is layout) file t)) (check_shown (Is layout) file t) number place (checked_is found e ∙ refuses))
+        sym (unless_refused (passed_by t) (shown t (table_of (Some layout) file t)) (check_shown (Some layout) file t) number place (checked_is found e ∙ refuses))
 
-module _ (reader : Layout) (file : List ℕ) (t : Trailer) (k : Known) (is : k ≡ known reader t.layout) where
-  pub trailer_known : (own : Layout) → k ≡ Is own → read_table (Is own) file t ≡ read_trailer reader file t
+module _ (reader : Layout) (file : List ℕ) (t : Trailer) (k : Option Layout) (is : k ≡ known reader t.layout) where
+  pub trailer_known : (own : Layout) → k ≡ Some own → read_table (Some own) file t ≡ read_trailer reader file t
   unfolding read_trailer
-  trailer_known own e = ap (λ (x : Known). read_table x file t) (sym e ∙ is)
+  trailer_known own e = ap (λ (x : Option Layout). read_table x file t) (sym e ∙ is)
 
-  pub trailer_unknown : k ≡ Unknown → passed_by t 23 t.layout ≡ read_trailer reader file t
+  pub trailer_unknown : k ≡ None → passed_by t 23 t.layout ≡ read_trailer reader file t
   unfolding read_trailer read_table check_shown unless
-  trailer_unknown e = ap (λ (x : Known). read_table x file t) (sym e ∙ is)
+  trailer_unknown e = ap (λ (x : Option Layout). read_table x file t) (sym e ∙ is)
 
 -- ## At a place
 
@@ -119,15 +117,15 @@ module _ (reader : Layout) (file : List ℕ) (used : ℕ) where
         ⊎_elim (λ e. subst P (sym e) (of_read at (of-trailer at))) (λ e. subst P (sym (e ∙ last_there)) (of-trailer (used - 16))) either
 
 -- a trailer in a layout that the reader knows: what is checked of its table decides
-module _ (reader : Layout) (file : List ℕ) (t : Trailer) (layout : Layout) (knows : known reader t.layout ≡ Is layout) where
-  pub by_refusal : (number place : ℕ) → check_table layout (table_of (Is layout) file t) ≡ Refused number place → read_trailer reader file t ≡ passed_by t number place
+module _ (reader : Layout) (file : List ℕ) (t : Trailer) (layout : Layout) (knows : known reader t.layout ≡ Some layout) where
+  pub by_refusal : (number place : ℕ) → check_table layout (table_of (Some layout) file t) ≡ Refused number place → read_trailer reader file t ≡ passed_by t number place
   unfolding read_table check_shown
   by_refusal number place e =
-      sym (trailer_known reader file t (Is layout) (sym knows) layout refl)
-      ∙ unless_refused (passed_by t) (shown t (table_of (Is layout) file t)) (check_table layout (table_of (Is layout) file t)) number place e
+      sym (trailer_known reader file t (Some layout) (sym knows) layout refl)
+      ∙ unless_refused (passed_by t) (shown t (table_of (Some layout) file t)) (check_table layout (table_of (Some layout) file t)) number place e
 
-  pub by_acceptance : check_table layout (table_of (Is layout) file t) ≡ Done → read_trailer reader file t ≡ shown t (table_of (Is layout) file t)
+  pub by_acceptance : check_table layout (table_of (Some layout) file t) ≡ Done → read_trailer reader file t ≡ shown t (table_of (Some layout) file t)
   unfolding read_table check_shown
   by_acceptance e =
-      sym (trailer_known reader file t (Is layout) (sym knows) layout refl)
-      ∙ unless_done (passed_by t) (shown t (table_of (Is layout) file t)) (check_table layout (table_of (Is layout) file t)) e
+      sym (trailer_known reader file t (Some layout) (sym knows) layout refl)
+      ∙ unless_done (passed_by t) (shown t (table_of (Some layout) file t)) (check_table layout (table_of (Some layout) file t)) e

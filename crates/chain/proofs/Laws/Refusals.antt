@@ -3,12 +3,13 @@ use Prim.Native.Nat.{ℕ, ◌+◌, ◌-◌, ◌<◌, ◌≤◌}
 use mathlib.Core.Bool.{Bool, false, ◌||◌}
 use mathlib.Core.List.{List}
 use mathlib.Core.Path.{ap, ◌≡◌}
+use native.Mathlib.Decide.{dec_lt}
 use native.Mathlib.Omega.{arith}
 use lib.Dec.{ltb}
 use lib.ListN.{length}
 use borrow.Author.Tests.{eq-eqb, le-ltb, lt-ltb, ltb-false, ltb-true, ne_eqb}
 use Rattle.bits.proofs.Laws.Bools.{or_left_false, or_right, or_right_false, same_test}
-use Rattle.tables.specs.declared.answers.Outcome.TheVariants.{Done, Refused}
+use Rattle.tables.specs.Outcomes.{Done, Refused}
 use Rattle.tables.specs.Refusals.{before, refuse}
 use Rattle.tables.proofs.Laws.Refusals.{before_first, before_second, refuse_fine}
 use Rattle.chain.specs.declared.layout.Layout.{Layout}
@@ -19,16 +20,25 @@ use Rattle.chain.specs.Trailer.{end_of, misfits, none, trailer_at}
 
 module _ (bytes used at : ℕ) where
   -- where fewer than 16 bytes are used, no trailer is whole
-  pub short_21 : used < 16 → Refused 21 0 ≡ check21 bytes used at
+  short_21 : used < 16 → Refused 21 0 ≡ check21 bytes used at
   unfolding check21 refuse
   short_21 h = rw (or_right (ltb bytes used) (lt-ltb used (at + 16) (omega arith)))
 
-  pub whole_21 : 16 ≤ used → refuse (ltb bytes used || ltb (used - 16) at) 21 0 ≡ check21 bytes used at
+  whole_21 : 16 ≤ used → refuse (ltb bytes used || ltb (used - 16) at) 21 0 ≡ check21 bytes used at
   unfolding check21
   whole_21 h =
       ap (λ (b : Bool). refuse (ltb bytes used || b) 21 0)
       (same_test (ltb (used - 16) at) (ltb used (at + 16)) (λ t. lt-ltb used (at + 16) (omega (arith, ltb-true (used - 16) at t)))
       (λ t. lt-ltb (used - 16) at (omega (arith, ltb-true used (at + 16) t))))
+
+  -- as the code has it, so that no difference is below 0
+  pub code_21 : before (refuse (ltb used 16) 21 0) (refuse (ltb bytes used || ltb (used - 16) at) 21 0) ≡ check21 bytes used at
+  unfolding before refuse
+  code_21 = go (dec_lt used 16)
+    where
+      go : Dec (used < 16) → before (refuse (ltb used 16) 21 0) (refuse (ltb bytes used || ltb (used - 16) at) 21 0) ≡ check21 bytes used at
+      go (yes few) = rw (lt-ltb used 16 few) (short_21 few)
+      go (no enough) = rw (le-ltb used 16 (omega arith)) (whole_21 (omega arith))
 
   -- a whole trailer within the used bytes
   pub record WholeTrailer : Type 0 where

@@ -1,13 +1,18 @@
 -- Equal numbers are equal answers.
-use mathlib.Core.Path.{◌≡◌}
+use Prim.Native.Nat.{ℕ}
+use mathlib.Core.Path.{ap, ◌≡◌}
 use Rattle.bits.proofs.Laws.Bools.{apart}
-use Rattle.chain.specs.declared.answers.Appended.{Appended}
-use Rattle.chain.specs.declared.answers.Appended.TheVariants.{Refused, Used}
+use Rattle.std.specs.Prelude.{Result, Ok, Err}
+use Rattle.tables.specs.declared.answers.Refusal.{Refusal}
+use Rattle.tables.proofs.Laws.Refusals.{same_refusal}
 use Rattle.chain.specs.Said.{appended_said}
 
-pub appended_said_law : (a b : Appended) → appended_said a ≡ appended_said b → a ≡ b
+pub appended_said_law : (a b : Result ℕ Refusal) → appended_said a ≡ appended_said b → a ≡ b
 unfolding appended_said
-appended_said_law (Refused n p) (Refused m q) e = cc
-appended_said_law (Refused n p) (Used bytes) e = apart (cc)
-appended_said_law (Used bytes) (Refused n p) e = apart (cc)
-appended_said_law (Used bytes) (Used others) e = cc
+appended_said_law (Err v) (Err w) e =
+    let number : v.number ≡ w.number = cc in
+    let place : v.place ≡ w.place = cc in
+    ap (λ (r : Refusal). Err r) (same_refusal v w number place)
+appended_said_law (Err w) (Ok bytes) e = apart (cc)
+appended_said_law (Ok bytes) (Err w) e = apart (cc)
+appended_said_law (Ok bytes) (Ok others) e = cc

@@ -9,15 +9,13 @@ use native.Mathlib.Decide.{ℕ_discrete}
 use native.Mathlib.Omega.{arith}
 use lib.ListN.{get_or, length}
 use borrow.Author.Tests.{eqb-true, not-false}
+use Rattle.std.specs.Prelude.{Option, Some, None, Err}
 use Rattle.bits.proofs.Laws.Below.{list_same}
-use Rattle.tables.specs.declared.answers.Outcome.{Outcome}
-use Rattle.tables.specs.declared.answers.Outcome.TheVariants.{Done, Refused}
+use Rattle.tables.specs.Outcomes.{Outcome, Done}
 use Rattle.tables.specs.Bytes.{number_at}
 use Rattle.tables.specs.Refusals.{before, unless}
 use Rattle.tables.proofs.Laws.Bytes.{number_same}
 use Rattle.chain.specs.declared.answers.Read.{Read}
-use Rattle.chain.specs.declared.layout.Known.{Known}
-use Rattle.chain.specs.declared.layout.Known.TheVariants.{Is, Unknown}
 use Rattle.chain.specs.declared.layout.Layout.{Layout}
 use Rattle.chain.specs.declared.trailer.Trailer.{Trailer}
 use Rattle.chain.specs.Answers.{nothing, passed_by, read_answer, read_at, read_table, read_trailer, shown}
@@ -47,12 +45,12 @@ module _ (f g : List ℕ) (at : ℕ) (same : (i : ℕ) → i < at + 16 → get_o
       list_same n (λ i. number_at 4 f (start + i * 4)) (λ i. number_at 4 g (start + i * 4)) (λ k l. number_same 4 f g (at + 16) (start + k * 4) same (omega arith))
 
   -- a table in a layout that the reader knows ends at the trailer
-  table_same : (k : Known) (t : Trailer) → misfits k t at ≡ false → read_table k f t ≡ read_table k g t
+  table_same : (k : Option Layout) (t : Trailer) → misfits k t at ≡ false → read_table k f t ≡ read_table k g t
   unfolding misfits read_table check_shown table_of
-  table_same (Is layout) t fills =
+  table_same (Some layout) t fills =
       let ends = eqb-true (t.start + t.count * width layout * 4) at (not-false _ fills) in
       ap (λ (l : List ℕ). unless (check_table layout l) (passed_by t) (shown t l)) (numbers_same t.start (t.count * width layout) (omega arith))
-  table_same Unknown t fills = refl
+  table_same None t fills = refl
 
   module _ (reader : Layout) (used end : ℕ) (there : at + 16 ≤ used) (fits : used ≤ length f) (still : at + 16 ≤ end) (room : end ≤ length g) where
     checks_same : check_trailer reader f used at ≡ check_trailer reader g end at
@@ -72,9 +70,9 @@ module _ (f g : List ℕ) (at : ℕ) (same : (i : ℕ) → i < at + 16 → get_o
             ∙ table_same (known reader t.layout) t (trailer_kept reader f used at e).fills
             ∙ ap (read_trailer reader g) trailer_same
             ∙ sym (read_trailer_law reader g end at Done (sym e ∙ checks_same) refl)
-        go (Refused number place) e =
-            read_nothing reader f used at (Refused number place) (sym e) number place refl
-            ∙ sym (read_nothing reader g end at (Refused number place) (sym e ∙ checks_same) number place refl)
+        go (Err w) e =
+            read_nothing reader f used at (Err w) (sym e) w.number w.place refl
+            ∙ sym (read_nothing reader g end at (Err w) (sym e ∙ checks_same) w.number w.place refl)
 
     pub read_same : read_answer reader f used at ≡ read_answer reader g end at
     read_same = go (ℕ_discrete at none)
@@ -86,13 +84,13 @@ module _ (f g : List ℕ) (at : ℕ) (same : (i : ℕ) → i < at + 16 → get_o
 -- ## Back
 
 -- whatever is found of its table, the trailer's layout and the preceding trailer are told
-pub table_contents : (k : Known) (file : List ℕ) (t : Trailer) → ((read_table k file t).layout ≡ t.layout) × ((read_table k file t).before ≡ t.before)
+pub table_contents : (k : Option Layout) (file : List ℕ) (t : Trailer) → ((read_table k file t).layout ≡ t.layout) × ((read_table k file t).before ≡ t.before)
 unfolding read_table passed_by shown unless
 table_contents k file t = go (check_shown k file t)
   where
     go : (o : Outcome) → ((unless o (passed_by t) (shown t (table_of k file t))).layout ≡ t.layout) × ((unless o (passed_by t) (shown t (table_of k file t))).before ≡ t.before)
     go Done = (refl, refl)
-    go (Refused number place) = (refl, refl)
+    go (Err w) = (refl, refl)
 
 module _ (reader : Layout) (file : List ℕ) (used at : ℕ) where
   pub read_contents : check_trailer reader file used at ≡ Done
@@ -109,7 +107,7 @@ module _ (reader : Layout) (file : List ℕ) (used at : ℕ) where
   there_back = go (check_trailer reader file used at) refl
     where
       go : (o : Outcome) → check_trailer reader file used at ≡ o → ((read_at reader file used at).before ≡ none) ⊎ ((read_at reader file used at).before + 16 ≤ at)
-      go (Refused number place) e = inl (ap (λ (r : Read). r.before) (read_nothing reader file used at (Refused number place) (sym e) number place refl))
+      go (Err w) e = inl (ap (λ (r : Read). r.before) (read_nothing reader file used at (Err w) (sym e) w.number w.place refl))
       go Done e = which (ℕ_discrete (trailer_at file at).before none)
         where
           which : Dec ((trailer_at file at).before ≡ none) → ((read_at reader file used at).before ≡ none) ⊎ ((read_at reader file used at).before + 16 ≤ at)

@@ -7,14 +7,11 @@ use native.Mathlib.Decide.{ℕ_discrete}
 use native.Mathlib.Omega.{arith}
 use lib.ListN.{length}
 use lib.Seq.{sets}
-use Rattle.bits.proofs.Laws.Bools.{apart}
-use Rattle.tables.specs.declared.answers.Outcome.TheVariants.{Done, Refused}
+use Rattle.std.specs.Prelude.{Option, Some, None, Result, Ok, Err}
+use Rattle.tables.specs.declared.answers.Refusal.{Refusal}
+use Rattle.tables.specs.Outcomes.{Done, Refused}
 use Rattle.tables.proofs.Laws.Refusals as refusals
-use Rattle.chain.specs.declared.answers.Appended.{Appended}
-use Rattle.chain.specs.declared.answers.Appended.TheVariants as appends
 use Rattle.chain.specs.declared.answers.Read.{Read}
-use Rattle.chain.specs.declared.layout.Known.{Known}
-use Rattle.chain.specs.declared.layout.Known.TheVariants.{Is, Unknown}
 use Rattle.chain.specs.declared.layout.Layout.{Layout}
 use Rattle.chain.specs.declared.layout.Layout.TheVariants.{Two}
 use Rattle.chain.specs.Answers.{append_answer, append_file, new_trailer, passed_by, read_answer, shown}
@@ -37,23 +34,22 @@ module _ (layout : Layout) (file : List ℕ) (used : ℕ) (table : List ℕ) whe
     pub ends : e ≡ end_after used (length table)
     pub wrote : append_file layout file used table ≡ sets file used (bytes_of 4 (appended_numbers layout file used table))
 
-  pub took : (e : ℕ) → append_answer layout file used table ≡ appends.Used e → Took e
+  pub took : (e : ℕ) → append_answer layout file used table ≡ Ok e → Took e
   unfolding append_answer
   took e says =
-      let w = (refusals.answered appends.Refused (appends.Used (end_after used (length table))) (appends.Used e) (λ n p q. apart (cc)) (check_append layout file used table)).0 says in
-      let same = w.1 in
+      let w = (refusals.given_by (end_after used (length table)) (check_append layout file used table) e).0 says in
       record {
         checks = accepted layout file used table w.0;
-        ends = cc;
+        ends = sym w.1;
         wrote = sym (writes_both layout file used table Done (sym w.0) (sets file used (bytes_of 4 (appended_numbers layout file used table))) refl refl);
       }
 
-  pub refused_by : (number place : ℕ) → append_answer layout file used table ≡ appends.Refused number place → check_append layout file used table ≡ Refused number place
+  pub refused_by : (number place : ℕ) → append_answer layout file used table ≡ Refused number place → check_append layout file used table ≡ Refused number place
   unfolding append_answer
   refused_by number place says =
-      (refusals.refused_by appends.Refused (appends.Used (end_after used (length table))) (λ n p x y e. cc) (λ x y e. apart (cc)) (check_append layout file used table) number place).0 says
+      (refusals.refused_by (end_after used (length table)) (check_append layout file used table) number place).0 says
 
-  pub refused_keeps : (number place : ℕ) → append_answer layout file used table ≡ appends.Refused number place → append_file layout file used table ≡ file
+  pub refused_keeps : (number place : ℕ) → append_answer layout file used table ≡ Refused number place → append_file layout file used table ≡ file
   refused_keeps number place says = sym (writes_nothing layout file used table (Refused number place) (sym (refused_by number place says)) number place refl)
 
   -- the trailer that it wrote keeps the rules
@@ -88,15 +84,15 @@ module _ (layout : Layout) (file : List ℕ) (used : ℕ) (table : List ℕ) (w 
   new_contents : (contents (read_answer reader after end at) ≡ contents_of reader (record { layout = layout; numbers = table })) × ((read_answer reader after end at).before ≡ last_place used)
   unfolding contents contents_of contents_to shown passed_by new_trailer
   new_contents =
-      ⊎_elim (λ e. told (Is layout) e (read_known layout file used table w reader e small) refl refl)
-      (λ e. told Unknown e (read_unknown layout file used table w reader e) refl refl) (own_known reader layout)
+      ⊎_elim (λ e. told (Some layout) e (read_known layout file used table w reader e small) refl refl)
+      (λ e. told None e (read_unknown layout file used table w reader e) refl refl) (own_known reader layout)
     where
       t : Table
       t = record { layout = layout; numbers = table }
 
-      told : (k : Known) {r : Read} → known reader (number_of layout) ≡ k → read_answer reader after end at ≡ r → contents r ≡ contents_to k t → r.before ≡ last_place used
+      told : (k : Option Layout) {r : Read} → known reader (number_of layout) ≡ k → read_answer reader after end at ≡ r → contents r ≡ contents_to k t → r.before ≡ last_place used
           → (contents (read_answer reader after end at) ≡ contents_to (known reader (number_of layout)) t) × ((read_answer reader after end at).before ≡ last_place used)
-      told k e is here back = (ap contents is ∙ here ∙ ap (λ (x : Known). contents_to x t) (sym e), ap (λ (x : Read). x.before) is ∙ back)
+      told k e is here back = (ap contents is ∙ here ∙ ap (λ (x : Option Layout). contents_to x t) (sym e), ap (λ (x : Read). x.before) is ∙ back)
 
   -- the walk from the new end: the table, then the walk from the former end
   pub walk_longer : (used ≤ length file) → walk reader after end (last_place end) ≡ read_answer reader after end at ∷ walk reader file used (last_place used)
@@ -133,8 +129,8 @@ pub grows_good : (s : SeasonFile) (t : Table) → Within32 t.numbers → Walkabl
 unfolding grows grows_by
 grows_good s t small w = go (append_answer t.layout s.bytes s.used t.numbers) refl
   where
-    go : (a : Appended) → append_answer t.layout s.bytes s.used t.numbers ≡ a → Walkable (grows_by a s t)
-    go (appends.Used e) says =
+    go : (a : Result ℕ Refusal) → append_answer t.layout s.bytes s.used t.numbers ≡ a → Walkable (grows_by a s t)
+    go (Ok e) says =
         let k = took t.layout s.bytes s.used t.numbers e says in
         record {
           fits = omega (arith, ap length k.wrote, length_after t.layout s.bytes s.used t.numbers k.checks, k.ends, k.checks.space.listed);
@@ -143,8 +139,8 @@ grows_good s t small w = go (append_answer t.layout s.bytes s.used t.numbers) re
               ap₂ (λ (f : List ℕ) (n : ℕ). map contents (walk reader f n (last_place n))) k.wrote k.ends
               ∙ contents_longer t.layout s.bytes s.used t.numbers k.checks small reader w.fits (map (contents_of reader) s.tables_taken) (w.walks reader);
         }
-    go (appends.Refused number place) says =
-        let kept = refused_keeps t.layout s.bytes s.used t.numbers number place says in
+    go (Err r) says =
+        let kept = refused_keeps t.layout s.bytes s.used t.numbers r.number r.place says in
         record {
           fits = omega (arith, ap length kept, w.fits);
           last = ap (λ (f : List ℕ). check_last f s.used) kept ∙ w.last;

@@ -2,7 +2,6 @@
 use Prim.Native.Nat.{ℕ, ◌+◌, ◌*◌, ◌/◌, ◌%◌, ◌<◌, ◌≤◌}
 use mathlib.Core.Bool.{Bool, false, not, true, ◌||◌}
 use mathlib.Core.List.{List}
-use mathlib.Core.Logic.{inl, inr, ◌⊎◌}
 use mathlib.Core.Path.{ap, refl, sym, ◌∙◌, ◌≡◌}
 use native.Mathlib.Omega.{arith}
 use lib.Dec.{eqb, ltb}
@@ -12,8 +11,8 @@ use borrow.Author.Tests.{eq-eqb, eqb-true, lt-ltb, ltb-false, ltb-true, not-fals
 use Rattle.bits.specs.Below.{list_from}
 use Rattle.bits.proofs.Laws.Arrays.{Written, written_all, written_more, written_none}
 use Rattle.bits.proofs.Laws.Below.{get_or_list, length_list_from}
-use Rattle.bits.proofs.Laws.Bools.{or_cases, or_left, or_left_false, or_right, or_right_false, apart}
-use Rattle.tables.specs.declared.answers.Outcome.TheVariants.{Done, Refused}
+use Rattle.bits.proofs.Laws.Bools.{or_left, or_left_false, or_right, or_right_false}
+use Rattle.tables.specs.Outcomes.{Done, Refused}
 use Rattle.tables.specs.Bytes.{number_at}
 use Rattle.tables.specs.Refusals.{before, check2, check_tasks, outside, refuse}
 use Rattle.tables.specs.Tables.{task_count}
@@ -90,31 +89,31 @@ no_tasks_law tasks e = rw (or_right (not (eqb (length tasks % 7) 0)) (or_left (l
 many_unlabelled : (table : List ℕ) → 16 < length table / 8 → check_tasks (unlabelled table) ≡ Refused 2 0
 many_unlabelled table h = many_tasks (unlabelled table) (omega (arith, length_unlabelled table))
 
-pub labelled_refused : (table : List ℕ) → (not (eqb (length table % 8) 0) || ltb 16 (length table / 8)) ≡ true → Refused 2 0 ≡ check_table Two table
+-- as the code has it: over 16 tasks are 2 before a number of them is looked at
+pub labelled_code : (table : List ℕ) → before (refuse (not (eqb (length table % 8) 0) || ltb 16 (length table / 8)) 2 0) (check_tasks (unlabelled table)) ≡ check_table Two table
 unfolding check_table refuse before
-labelled_refused table test = go (not (eqb (length table % 8) 0)) (or_cases (not (eqb (length table % 8) 0)) (ltb 16 (length table / 8)) test)
+labelled_code table = go (not (eqb (length table % 8) 0)) (ltb 16 (length table / 8)) refl
   where
-    go : (b : Bool) → (b ≡ true) ⊎ (ltb 16 (length table / 8) ≡ true) → Refused 2 0 ≡ before (refuse b 2 0) (check_tasks (unlabelled table))
-    go true w = refl
-    go false (inl e) = apart (cc)
-    go false (inr h) = sym (many_unlabelled table (ltb-true 16 (length table / 8) h))
+    go : (b many : Bool) → ltb 16 (length table / 8) ≡ many → before (refuse (b || many) 2 0) (check_tasks (unlabelled table)) ≡ before (refuse b 2 0) (check_tasks (unlabelled table))
+    go true many e = refl
+    go false true e = sym (many_unlabelled table (ltb-true 16 (length table / 8) e))
+    go false false e = refl
 
-pub labelled_passes : (table : List ℕ) → not (eqb (length table % 8) 0) ≡ false → check_tasks (unlabelled table) ≡ check_table Two table
+labelled_passes : (table : List ℕ) → not (eqb (length table % 8) 0) ≡ false → check_tasks (unlabelled table) ≡ check_table Two table
 unfolding check_table refuse before
 labelled_passes table whole = rw whole
 
 -- a length that is not refused so: whole tasks, few enough to be laid without their labels
-module _ (table : List ℕ) (test : (not (eqb (length table % 8) 0) || ltb 16 (length table / 8)) ≡ false) where
+module _ (table : List ℕ) (ok : refuse (not (eqb (length table % 8) 0) || ltb 16 (length table / 8)) 2 0 ≡ Done) where
   pub labelled_few : length table / 8 ≤ 16
-  labelled_few = ltb-false 16 (length table / 8) (or_right_false (not (eqb (length table % 8) 0)) (ltb 16 (length table / 8)) test)
+  labelled_few = ltb-false 16 (length table / 8) (or_right_false (not (eqb (length table % 8) 0)) (ltb 16 (length table / 8)) (refuse_fine _ 2 0 ok))
 
-  pub labelled_checked : (sevens : List ℕ) → sevens ≡ padded 112 (unlabelled table) → check_tasks (take (length table / 8 * 7) sevens) ≡ check_table Two table
+  pub labelled_checked : (sevens : List ℕ) → sevens ≡ padded 112 (unlabelled table) → check_tasks (take (length table / 8 * 7) sevens) ≡ check_tasks (unlabelled table)
   labelled_checked sevens is =
       let list = unlabelled table in
       ap (λ (l : List ℕ). check_tasks (take (length table / 8 * 7) l)) is
       ∙ ap (λ (n : ℕ). check_tasks (take n (padded 112 list))) (sym (length_unlabelled table))
       ∙ ap check_tasks (take_padded 112 list (omega (arith, length_unlabelled table, labelled_few)))
-      ∙ labelled_passes table (or_left_false (not (eqb (length table % 8) 0)) (ltb 16 (length table / 8)) test)
 
 pub many_refused : (layout : Layout) (table : List ℕ) (count : ℕ) → length table ≡ count * width layout → 16 < count → check_table layout table ≡ Refused 2 0
 unfolding check_table

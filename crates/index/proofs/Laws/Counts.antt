@@ -10,11 +10,12 @@ use native.Mathlib.Omega.{arith}
 use lib.ListN.{drop, get_or, length, length-set, length-take, replicate, set, take}
 use lib.Seq.{ext_get_or, get_or-set_other, get_or-set_same, take-add, take-suc}
 use borrow.Author.Tests.{eq-eqb, ne_eqb}
+use Rattle.std.specs.Prelude.{Some, None}
 use Rattle.bits.specs.Below.{list_from}
 use Rattle.bits.proofs.Laws.Below.{get_or_list, length_list_from}
-use Rattle.bits.proofs.Laws.Bools.{and_left, and_right, and_true, at_most_one}
+use Rattle.bits.proofs.Laws.Bools.{and_left, and_right, and_true, apart, at_most_one}
 use Rattle.tables.specs.Tables.{Lists}
-use Rattle.index.specs.Code.{Checked, counts_of}
+use Rattle.index.specs.Code.{Checked, counts_of, tally}
 use Rattle.index.specs.Counts.{all_jobs_or_idle, column, gives, job_or_idle, entries_between, ticks}
 
 and_last : (a : Bool) → (a && true) ≡ a
@@ -139,6 +140,31 @@ module _ (l : Lists) (c : ℕ) where
   ticks_set [] t x m = absurd (omega arith)
   ticks_set (y ∷ xs) zero x m = omega arith
   ticks_set (y ∷ xs) (suc t) x m = omega (arith, ticks_set xs t x (omega arith))
+
+-- what is told of entries that are all jobs or idle
+pub tally_some : (l : Lists) (c : ℕ) (entries : List ℕ) (n : ℕ) → tally l c entries ≡ Some n → n ≡ ticks l c entries
+unfolding tally
+tally_some l c entries n e = go (all_jobs_or_idle l.jobs entries) e
+  where
+    go : (b : Bool) → cond b (Some (ticks l c entries)) None ≡ Some n → n ≡ ticks l c entries
+    go true e = cc
+    go false e = apart (cc)
+
+pub tally_all : (l : Lists) (c : ℕ) (entries : List ℕ) (n : ℕ) → tally l c entries ≡ Some n → all_jobs_or_idle l.jobs entries ≡ true
+unfolding tally
+tally_all l c entries n e = go (all_jobs_or_idle l.jobs entries) e
+  where
+    go : (b : Bool) → cond b (Some (ticks l c entries)) None ≡ Some n → b ≡ true
+    go true e = refl
+    go false e = apart (cc)
+
+pub tally_none : (l : Lists) (c : ℕ) (entries : List ℕ) → tally l c entries ≡ None → all_jobs_or_idle l.jobs entries ≡ false
+unfolding tally
+tally_none l c entries e = go (all_jobs_or_idle l.jobs entries) e
+  where
+    go : (b : Bool) → cond b (Some (ticks l c entries)) None ≡ None → b ≡ false
+    go true e = apart (cc)
+    go false e = refl
 
 -- a known entry is given to its own column alone
 module _ (l : Lists) (entry : ℕ) (is : job_or_idle l.jobs entry ≡ true) where

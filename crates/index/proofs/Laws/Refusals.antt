@@ -9,7 +9,7 @@ use lib.Dec.{eqb, ltb}
 use lib.ListN.{length}
 use borrow.Author.Tests.{eqb-true, ltb-true, not-false}
 use Rattle.bits.proofs.Laws.Bools.{by_cond, clash, or_cases}
-use Rattle.tables.specs.declared.answers.Outcome.TheVariants.{Done}
+use Rattle.tables.specs.Outcomes.{Done}
 use Rattle.tables.specs.Refusals.{check_lists}
 use Rattle.tables.specs.Tables.{Lists, idle, job_count, task_count, task_of}
 use Rattle.tables.proofs.Laws.Accepted.{accepted_job, lists_jobs, lists_tasks, few_tasks, Accepted, accepted}

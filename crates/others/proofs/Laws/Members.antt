@@ -10,7 +10,7 @@ use lib.ListN.{length}
 use borrow.Author.Tests.{not-false}
 use Rattle.bits.proofs.Laws.Bools.{either}
 use Rattle.bits.proofs.Readings.{every_reads, le_reads, lt_reads, or_else}
-use Rattle.tables.specs.declared.answers.Outcome.TheVariants.{Done}
+use Rattle.tables.specs.Outcomes.{Done}
 use Rattle.tables.specs.Refusals.{check_lists}
 use Rattle.tables.specs.Tables.{criticality, job_count, job_criticality, job_priority, lists, priority, task_count, task_of}
 use Rattle.tables.proofs.Laws.Accepted.{accepted_job, lists_few, lists_jobs}

@@ -10,7 +10,9 @@ use lib.Dec.{eqb}
 use lib.ListN.{get_or, length, length-map}
 use lib.Seq.{ext_get_or}
 use borrow.Author.Tests.{le-ltb}
-use Rattle.tables.specs.declared.answers.Outcome.TheVariants.{Done}
+use Rattle.std.specs.Prelude.{Ok}
+use Rattle.zsrm.specs.declared.answers.Verdict.{Verdict}
+use Rattle.tables.specs.Outcomes.{Done}
 use Rattle.tables.specs.Fields.{job_at}
 use Rattle.tables.specs.Refusals.{before, check9, check_lists, refuse, check_schedule}
 use Rattle.tables.specs.Said.{done, outcome_said}
@@ -68,7 +70,7 @@ share_ties g Stay horizon lent j =
 
 -- the verdict on a job of an accepted list is not refused
 judged : (g : Given) (horizon : ℕ) (lent : List ℕ) → check_schedule g.lists horizon (length lent) ≡ Done → (j : ℕ) → j < job_count g.lists.jobs
-    → verdict_answer g (run_answer g Lowest horizon lent).«record» j ≡ verdict g.lists (run_answer g Lowest horizon lent).«record» j
+    → verdict_answer g (run_answer g Lowest horizon lent).«record» j ≡ Ok (verdict g.lists (run_answer g Lowest horizon lent).«record» j)
 judged g horizon lent ok j l = verdict_answered g (accepted g.lists horizon (length lent) ok).lists _ (ran_consistent g Lowest horizon lent ok) j l
 
 module _ (set : ℕ → Bool) (tasks : List ℕ) (lower : outside_lower set tasks ≡ true) (no-more-critical : outside_no_more_critical set tasks ≡ true)
@@ -105,7 +107,7 @@ module _ (set : ℕ → Bool) (tasks : List ℕ) (lower : outside_lower set task
   share_same tie i l =
       let who = passing_same _ _ horizon (runs_same i l) in
       let says =
-      judged g horizon lent-a ok-a (member set a i) (matched.one.known i l) ∙ verdict_alike matched mode _ _ records_same i l
+      judged g horizon lent-a ok-a (member set a i) (matched.one.known i l) ∙ ap (λ (v : Verdict). Ok v) (verdict_alike matched mode _ _ records_same i l)
       ∙ sym (judged h horizon lent-b ok-b (member set b i) (matched.other.known i l)) in
       share_ties g tie horizon lent-a (member set a i) ∙ (λ z. record { ticks = who z; place = records_same.place i l z; verdict = says z })
       ∙ sym (share_ties h tie horizon lent-b (member set b i))

@@ -6,7 +6,9 @@ use native.Mathlib.Omega.{arith}
 use Rattle.bits.specs.Below.{list_from}
 use Rattle.bits.proofs.Laws.Arrays.{Written, written_all}
 use Rattle.bits.proofs.Laws.Below.{list_same}
-use Rattle.tables.specs.declared.answers.Outcome.TheVariants.{Done, Refused}
+use Rattle.std.specs.Prelude.{Result}
+use Rattle.tables.specs.declared.answers.Refusal.{Refusal}
+use Rattle.tables.specs.Outcomes.{Done, Refused}
 use Rattle.tables.specs.Tables.{job_count, lists}
 use Rattle.tables.proofs.Laws.Accepted.{lists_few, accepted}
 use Rattle.tables.proofs.Laws.Refusals.{unless_done, unless_refused}
@@ -53,7 +55,7 @@ module _ (mode : Mode) (jobs longer : List ℕ) (horizon : ℕ) where
     admission_made count old new r s made c o ro n sn e =
         e ∙ ap₂ (λ (k : ℕ) (cs : List Change). record { outcome = Done; count = k; changes = cs }) c
         (list_same 64 (change_of old new) (change_at mode jobs longer horizon)
-        (λ k l. ap₂ (λ (x y : Verdict). record { before = x; after = y }) (judged_in jobs old r o ro k l) (judged_in longer new s n sn k l)))
+        (λ k l. ap₂ (λ (x y : Result Verdict Refusal). record { before = x; after = y }) (judged_in jobs old r o ro k l) (judged_in longer new s n sn k l)))
         ∙ sym (unless_done refused_admission _ (check_schedule (lists table longer) horizon horizon) ok)
 
   -- the longer list is refused

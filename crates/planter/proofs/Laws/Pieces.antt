@@ -7,7 +7,7 @@ use mathlib.Core.Path.{ap, refl, sym, ◌∙◌, ◌≡◌}
 use native.Mathlib.Omega.{arith}
 use lib.ListN.{length, length-replicate, replicate}
 use borrow.Author.Tests.{le-ltb}
-use Rattle.tables.specs.declared.answers.Outcome.TheVariants.{Done}
+use Rattle.tables.specs.Outcomes.{Done}
 use Rattle.tables.specs.Refusals.{before, check9, check_lists, refuse, check_schedule}
 use Rattle.tables.specs.Said.{done, outcome_said}
 use Rattle.tables.proofs.Laws.Accepted.{accepted, schedule_checked}

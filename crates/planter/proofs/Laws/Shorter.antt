@@ -11,8 +11,7 @@ use borrow.Author.Tests.{eq-eqb, eqb-true, le-ltb, not-false}
 use Rattle.bits.specs.Below.{greatest}
 use Rattle.bits.proofs.Laws.Below.{greatest_same}
 use Rattle.bits.proofs.Laws.Bools.{by_cond, or_left_false}
-use Rattle.tables.specs.declared.answers.Outcome.{Outcome}
-use Rattle.tables.specs.declared.answers.Outcome.TheVariants.{Done}
+use Rattle.tables.specs.Outcomes.{Outcome, Done}
 use Rattle.tables.specs.Refusals.{ascending, before, check2, check3, check4, check5, check6, check7, check8, check_jobs, check_lists, check_tasks, outside, preceding, refuse, check_schedule}
 use Rattle.tables.specs.Tables.{arrival, criticality, deadline, execution, job_count, lists, nominal, offset, overload, period, priority, task_count, task_of}
 use Rattle.tables.proofs.Laws.Accepted.{few_jobs, lists_jobs, accepted}

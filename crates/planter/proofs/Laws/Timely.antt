@@ -22,7 +22,7 @@ use borrow.Author.Tests.{eq-eqb, eqb-true, le-leb, leb-true, ne_eqb}
 use Rattle.bits.specs.Below.{sum_below}
 use Rattle.bits.proofs.Laws.Bools.{and_left, and_right, and_true, by_cond, clash, either, not_of}
 use Rattle.bits.proofs.Laws.Sums.{sum_more, sum_same}
-use Rattle.tables.specs.declared.answers.Outcome.TheVariants.{Done}
+use Rattle.tables.specs.Outcomes.{Done}
 use Rattle.tables.specs.Refusals.{check_jobs}
 use Rattle.tables.specs.Tables.{arrival, criticality, deadline, deadline_instant, execution, idle, job_count, job_criticality}
 use Rattle.tables.specs.Tables.{job_priority, offset, overload, period, priority, task_count, task_of, zero_slack_instant}

@@ -8,8 +8,8 @@ use native.Mathlib.Omega.{arith}
 use lib.ListN.{get_or, length, length-replicate, replicate}
 use borrow.Author.Tests.{le-ltb}
 use Rattle.bits.proofs.Laws.Below.{get_or_list}
-use Rattle.tables.specs.declared.answers.Outcome.{Outcome}
-use Rattle.tables.specs.declared.answers.Outcome.TheVariants as outcomes
+use Rattle.std.specs.Prelude.{Ok, Err}
+use Rattle.tables.specs.Outcomes.{Outcome, Done, Refused}
 use Rattle.tables.specs.Refusals.{before, check13, refuse, unless, check_schedule}
 use Rattle.tables.specs.Said.{done, outcome_said, refused}
 use Rattle.tables.specs.Tables.{arrival, job_count, lists, task_of}
@@ -39,7 +39,7 @@ module _ (mode : Mode) (jobs : List ℕ) (horizon : ℕ) (lent : List ℕ) (whol
   run_outcome_is : (run_answer (planter mode jobs) Stay horizon lent).outcome ≡ check_schedule (lists table jobs) horizon horizon
   run_outcome_is = run_outcome_checked (planter mode jobs) Stay horizon lent ∙ ap (check_schedule (lists table jobs) horizon) whole
 
-  module _ (ok : check_schedule (lists table jobs) horizon horizon ≡ outcomes.Done) where
+  module _ (ok : check_schedule (lists table jobs) horizon horizon ≡ Done) where
     run_done : outcome_said (run_answer (planter mode jobs) Stay horizon lent).outcome ≡ done
     unfolding outcome_said
     run_done = ap outcome_said (run_outcome_is ∙ ok)
@@ -52,7 +52,7 @@ module _ (mode : Mode) (jobs : List ℕ) (horizon : ℕ) (lent : List ℕ) (whol
     verdict_is j = ap (λ (r : Record). verdict_answer (planter mode jobs) r j) (sym record_is)
 
 -- the library's answer for a job not in the list
-unlisted : (mode : Mode) (jobs : List ℕ) (horizon j : ℕ) → check_schedule (lists table jobs) horizon horizon ≡ outcomes.Done → job_count jobs ≤ j
+unlisted : (mode : Mode) (jobs : List ℕ) (horizon j : ℕ) → check_schedule (lists table jobs) horizon horizon ≡ Done → job_count jobs ≤ j
     → verdict_said (verdict_in mode jobs horizon j) ≡ refused 13 0
 unfolding verdict_said verdict_in verdict_answer check_verdict check11 check13 refuse before unless
 unlisted mode jobs horizon j ok past =
@@ -63,7 +63,7 @@ unlisted mode jobs horizon j ok past =
     rw ((accepted (lists table jobs) horizon horizon ok).lists, sound, le-ltb j (job_count jobs) past)
 
 -- a down-force job of a list is met, where its deadline lies within the horizon
-down_force_met : (mode : Mode) (jobs : List ℕ) (horizon j : ℕ) → check_schedule (lists table jobs) horizon horizon ≡ outcomes.Done → j < job_count jobs → task_of jobs j ≡ down_force
+down_force_met : (mode : Mode) (jobs : List ℕ) (horizon j : ℕ) → check_schedule (lists table jobs) horizon horizon ≡ Done → j < job_count jobs → task_of jobs j ≡ down_force
     → arrival jobs j + 20 ≤ horizon → verdict_said (verdict_in mode jobs horizon j) ≡ met
 down_force_met mode jobs horizon j ok l its within =
     let lent = replicate {A = ℕ} horizon 0 in
@@ -71,10 +71,10 @@ down_force_met mode jobs horizon j ok l its within =
     ap verdict_said (verdict_is mode jobs horizon lent whole ok j) ∙ run_meets mode jobs j l its horizon lent (run_done mode jobs horizon lent whole ok) within
 
 -- an admission's outcome is what its check says
-outcome_of : (o : Outcome) (a : Admission) → a.outcome ≡ outcomes.Done → (unless o refused_admission a).outcome ≡ o
+outcome_of : (o : Outcome) (a : Admission) → a.outcome ≡ Done → (unless o refused_admission a).outcome ≡ o
 unfolding unless refused_admission
-outcome_of outcomes.Done a e = e
-outcome_of (outcomes.Refused number place) a e = refl
+outcome_of (Ok u) a e = e
+outcome_of (Err w) a e = refl
 
 module _ (mode : Mode) (jobs : List ℕ) (horizon task arrives runs : ℕ) where
   abbrev longer : List ℕ
@@ -98,19 +98,19 @@ module _ (mode : Mode) (jobs : List ℕ) (horizon task arrives runs : ℕ) where
       let lent = replicate {A = ℕ} horizon 0 in
       let whole = length-replicate {A = ℕ} horizon 0 in
       let o = sym (run_outcome_is mode longer horizon lent whole) ∙ sym (outcome_is_runs lent whole)
-      ∙ outcome_said_law (admit_answer mode jobs horizon task arrives runs).outcome (outcomes.Refused number place) says in
+      ∙ outcome_said_law (admit_answer mode jobs horizon task arrives runs).outcome (Refused number place) says in
       unless_refused refused_admission _ (check_schedule (lists table longer) horizon horizon) number place o
 
   -- Where it is done:
   module _ (ok : outcome_said (admit_answer mode jobs horizon task arrives runs).outcome ≡ done) where
-    longer_runs : check_schedule (lists table longer) horizon horizon ≡ outcomes.Done
+    longer_runs : check_schedule (lists table longer) horizon horizon ≡ Done
     unfolding outcome_said
     longer_runs =
         let lent = replicate {A = ℕ} horizon 0 in
         let whole = length-replicate {A = ℕ} horizon 0 in
-        sym (run_outcome_is mode longer horizon lent whole) ∙ sym (outcome_is_runs lent whole) ∙ outcome_said_law (admit_answer mode jobs horizon task arrives runs).outcome outcomes.Done ok
+        sym (run_outcome_is mode longer horizon lent whole) ∙ sym (outcome_is_runs lent whole) ∙ outcome_said_law (admit_answer mode jobs horizon task arrives runs).outcome Done ok
 
-    jobs_run : check_schedule (lists table jobs) horizon horizon ≡ outcomes.Done
+    jobs_run : check_schedule (lists table jobs) horizon horizon ≡ Done
     jobs_run = shorter_runs jobs task arrives runs mode horizon longer_runs
 
     counted : job_count longer ≡ job_count jobs + 1

@@ -12,7 +12,7 @@ use native.Mathlib.Omega.{arith}
 use lib.ListN.{length, get_or-eq_default}
 use borrow.Author.Tests.{leb-true, ltb-true}
 use Rattle.bits.proofs.Laws.Bools.{apart}
-use Rattle.tables.specs.declared.answers.Outcome.TheVariants.{Done}
+use Rattle.tables.specs.Outcomes.{Done}
 use Rattle.tables.specs.Refusals.{check_lists, check_schedule}
 use Rattle.tables.specs.Said.{done, outcome_said}
 use Rattle.tables.specs.Tables.{arrival, criticality, deadline, deadline_instant, execution, job_count, job_criticality, offset, overload, task_count, task_of, zero_slack_instant}

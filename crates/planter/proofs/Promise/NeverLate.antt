@@ -13,7 +13,9 @@ use native.Mathlib.Omega.{arith}
 use lib.ListN.{length}
 use borrow.Author.Tests.{le-leb, lt-leb}
 use Rattle.bits.proofs.Laws.Bools.{apart}
-use Rattle.tables.specs.declared.answers.Outcome.TheVariants.{Done}
+use Rattle.std.specs.Prelude.{Result, Ok}
+use Rattle.tables.specs.declared.answers.Refusal.{Refusal}
+use Rattle.tables.specs.Outcomes.{Done}
 use Rattle.tables.specs.Refusals.{check_jobs}
 use Rattle.tables.specs.Tables.{deadline_instant, job_count}
 use Rattle.tables.proofs.Laws.Accepted.{lists_jobs}
@@ -36,7 +38,7 @@ use Rattle.planter.proofs.Promise.DownForce.{Planned}
 use Rattle.planter.proofs.Laws.Timely.{EndsOnTime, Timed, always_on_time}
 
 -- met; or ended, in SE; or still open, before the deadline
-abbrev pub NotLate : Mode → ℕ → ℕ → Verdict → Type 0
+abbrev pub NotLate : Mode → ℕ → ℕ → Result Verdict Refusal → Type 0
 NotLate mode horizon due v = (verdict_said v ≡ met) ⊎ (((verdict_said v ≡ ended) × (mode ≡ SE)) ⊎ ((verdict_said v ≡ still_open) × (horizon < due)))
 
 module _ (mode : Mode) (jobs : List ℕ) (horizon : ℕ) (r : Record) (p : Planned mode jobs horizon r) (j : ℕ) (l : j < job_count jobs) where
@@ -53,7 +55,7 @@ module _ (mode : Mode) (jobs : List ℕ) (horizon : ℕ) (r : Record) (p : Plann
       subst (NotLate mode horizon (deadline_instant g.lists j)) (sym (verdict_answered g a.lists r w.sound j l)) (go ok (standing_at r j) w.time w.timed)
     where
       go : (ok : check_jobs table jobs ≡ Done) (x : Standing) → r.tick ≡ horizon → Timed mode jobs ok horizon (deadline_instant (planter mode jobs).lists j) x
-          → NotLate mode horizon (deadline_instant (planter mode jobs).lists j) (judged (deadline_instant (planter mode jobs).lists j) r.tick x)
+          → NotLate mode horizon (deadline_instant (planter mode jobs).lists j) (Ok (judged (deadline_instant (planter mode jobs).lists j) r.tick x))
       go ok NotArrived time w = inr (inr (refl, w))
       go ok Unfinished time w = inr (inr (rw (lt-leb (deadline_instant (planter mode jobs).lists j) r.tick (omega (arith, w, time))), w))
       go ok (Finished f) time w = inl (rw (le-leb f _ w))

@@ -10,19 +10,23 @@ use lib.Dec.{lit<, ltb}
 use lib.ListN.{length}
 use lib.Pow.{pow-add}
 use borrow.Author.Tests.{ltb-false, ltb-true}
+use Rattle.std.specs.Prelude.{Option, Some, None}
 use Rattle.bits.proofs.Laws.Bools.{apart}
 use Rattle.text.specs.Decimal.{decimal, size}
 use Rattle.text.proofs.Laws.Writing.{length_digits, size_more, size_most, size_one, size_some}
 use Rattle.season.specs.declared.answers.Mean.{Mean}
-use Rattle.season.specs.declared.answers.Mean.TheVariants.{None, Of}
 use Rattle.season.specs.Said.{mean_said}
 
-pub mean_said_law : (a b : Mean) → mean_said a ≡ mean_said b → a ≡ b
+mean_same : {q r n x y z : ℕ} → q ≡ x → r ≡ y → n ≡ z
+    → ◌≡◌ {A = Option Mean} (Some (record { quotient = q; remainder = r; count = n })) (Some (record { quotient = x; remainder = y; count = z }))
+mean_same p q r = rw (p, q, r)
+
+pub mean_said_law : (a b : Option Mean) → mean_said a ≡ mean_said b → a ≡ b
 unfolding mean_said
 mean_said_law None None e = refl
-mean_said_law None (Of q r n) e = apart (cc)
-mean_said_law (Of q r n) None e = apart (cc)
-mean_said_law (Of q r n) (Of x y z) e = cc
+mean_said_law None (Some m) e = apart (cc)
+mean_said_law (Some m) None e = apart (cc)
+mean_said_law (Some m) (Some n) e = mean_same (cc) (cc) (cc)
 
 -- ## Digits
 

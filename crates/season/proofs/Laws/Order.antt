@@ -11,8 +11,8 @@ use lib.ListN.{get_or-replicate, replicate}
 use Rattle.bits.specs.Below.{list_from}
 use Rattle.bits.proofs.Laws.Below.{list_same}
 use Rattle.bits.proofs.Laws.Bools.{by_cond, apart}
-use Rattle.tables.specs.declared.answers.Outcome.{Outcome}
-use Rattle.tables.specs.declared.answers.Outcome.TheVariants.{Done, Refused}
+use Rattle.std.specs.Prelude.{Err}
+use Rattle.tables.specs.Outcomes.{Outcome, Done, Refused}
 use Rattle.tables.specs.Refusals.{unless}
 use Rattle.tables.proofs.Laws.Refusals.{before_stops}
 use Rattle.tables.proofs.Laws.Said.{said_done}
@@ -171,8 +171,9 @@ add_same a c g run v = go (check_verdicts g run) refl
     go Done ok =
         subst (λ (x : Reported). Alike x (add_answer c g run)) (add_done g run a (join_answer a own) ok refl)
         (subst (Alike (join_answer a own)) (add_done g run c (join_answer c own) ok refl) (join_same a own c own v (record { tasks_are = refl; rows_are = λ k l. refl })))
-    go (Refused n p) e =
-        both_refused (add_answer a g run) (add_answer c g run) n p (before_stops (check_verdicts g run) (check18 a own) n p e) (before_stops (check_verdicts g run) (check18 c own) n p e)
+    go (Err w) e =
+        both_refused (add_answer a g run) (add_answer c g run) w.number w.place (before_stops (check_verdicts g run) (check18 a own) w.number w.place e)
+        (before_stops (check_verdicts g run) (check18 c own) w.number w.place e)
 
 pub lines_same : (a c : Report) → Same a c → showing a ≡ showing c
 unfolding showing

@@ -13,11 +13,12 @@ use borrow.Author.Tests.{eq-eqb, ne_eqb, not-false}
 use Rattle.bits.specs.Below.{list_from}
 use Rattle.bits.proofs.Laws.Below.{get_or_list, length_list_from}
 use Rattle.bits.proofs.Laws.Bools.{by_cond}
-use Rattle.tables.specs.declared.answers.Outcome.TheVariants.{Done, Refused}
+use Rattle.std.specs.Prelude.{Ok}
+use Rattle.tables.specs.Outcomes.{Done, Refused}
 use Rattle.tables.specs.Refusals.{before, check_lists, refuse}
 use Rattle.tables.specs.Tables.{Lists, arrival, job_count, task_count, task_of}
 use Rattle.tables.proofs.Laws.Accepted.{accepted_job, lists_few, lists_jobs, lists_tasks, few_tasks}
-use Rattle.tables.proofs.Laws.Refusals.{before_first, before_second, refuse_fine}
+use Rattle.tables.proofs.Laws.Refusals.{same_ok, before_first, before_second, refuse_fine}
 use Rattle.zsrm.specs.declared.answers.Verdict.{Verdict}
 use Rattle.zsrm.specs.declared.answers.Verdicts.{Verdicts}
 use Rattle.zsrm.specs.declared.record.Record.{Record}
@@ -66,7 +67,6 @@ small_counted : (m l e o : ℕ) → m ≤ 1 → l ≤ 1 → e ≤ 1 → o ≤ 1 
 small_counted m l e o a b c d = record { met = omega arith; late = omega arith; ended = omega arith; «open» = omega arith; finished = omega arith; sum = omega arith }
 
 small_judged : (v : Verdict) → SmallRow 1 (judged_row v)
-small_judged (verdicts.Refused number place) = small_on small_none
 small_judged verdicts.Met = small_counted 1 0 0 0 (omega arith) (omega arith) (omega arith) (omega arith)
 small_judged (verdicts.Late by is_exact) = small_counted 0 1 0 0 (omega arith) (omega arith) (omega arith) (omega arith)
 small_judged verdicts.Ended = small_counted 0 0 1 0 (omega arith) (omega arith) (omega arith) (omega arith)
@@ -111,9 +111,13 @@ module _ {l : Lists} {r : Record} {all : Verdicts} (w : JudgedRun l r all) where
   judged_run_task j b = omega (arith, judged_run_tasks, (accepted_job l.tasks l.jobs (lists_jobs l w.lists) j b).known)
 
   -- the row of one job, from its verdict and its standing
-  pub one_job : (j : ℕ) (one : Row) (a : ℕ) → j < job_count l.jobs → a ≡ arrival l.jobs j → one ≡ job_row (verdict_of all j) a (standing_at r j) → one ≡ job_row_at l r j
+  pub one_judged : (j : ℕ) (v : Verdict) → j < job_count l.jobs → verdict_of all j ≡ Ok v → v ≡ verdict l r j
+  one_judged j v b e = same_ok (sym e ∙ w.judged j b)
+
+  pub one_job : (j : ℕ) (one : Row) (v : Verdict) (a : ℕ) → j < job_count l.jobs → a ≡ arrival l.jobs j → verdict_of all j ≡ Ok v → one ≡ job_row v a (standing_at r j)
+      → one ≡ job_row_at l r j
   unfolding job_row_at
-  one_job j one a b p q = rw (← p, ← w.judged j b) q
+  one_job j one v a b p e q = rw (← p, ← one_judged j v b e) q
 
   pub room_there : (j k : ℕ) (out : Report) (one : Row) → j < job_count l.jobs → k < 16 → out ≡ own_up_to l r j → one ≡ job_row_at l r j → Joinable (get_or out.rows k empty_row) one
   unfolding own_up_to

@@ -11,8 +11,7 @@ use borrow.Author.Tests.{eq-eqb, eqb-true, le-ltb, lt-ltb, ltb-true, not-false}
 use Rattle.bits.proofs.Laws.Arrays.{Written, written_all, written_more}
 use Rattle.bits.proofs.Laws.Below.{every_at, every_true, get_or_list, list_same}
 use Rattle.bits.proofs.Laws.Bools.{or_left_false, or_right_false}
-use Rattle.tables.specs.declared.answers.Outcome.{Outcome}
-use Rattle.tables.specs.declared.answers.Outcome.TheVariants.{Done, Refused}
+use Rattle.tables.specs.Outcomes.{Outcome, Done, Refused}
 use Rattle.tables.specs.Refusals.{check_tasks, refuse, unless}
 use Rattle.tables.specs.Tables.{task_count}
 use Rattle.tables.proofs.Laws.Refusals.{refuse_fine}

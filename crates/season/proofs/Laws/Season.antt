@@ -8,8 +8,8 @@ use lib.Dec.{eqb, ltb}
 use Rattle.bits.specs.Below.{list_from}
 use Rattle.bits.proofs.Laws.Below.{get_or_list, list_same}
 use Rattle.bits.proofs.Laws.Bools.{by_cond}
-use Rattle.tables.specs.declared.answers.Outcome.{Outcome}
-use Rattle.tables.specs.declared.answers.Outcome.TheVariants.{Done, Refused}
+use Rattle.std.specs.Prelude.{Err}
+use Rattle.tables.specs.Outcomes.{Outcome, Done}
 use Rattle.tables.specs.Refusals.{before, check_tasks, unless}
 use Rattle.tables.specs.Tables.{Lists, job_count, lists, task_count, task_of}
 use Rattle.tables.proofs.Laws.Refusals.{before_first, before_second}
@@ -192,7 +192,7 @@ then_first x next = go x.outcome refl
   where
     go : (o : Outcome) → x.outcome ≡ o → (unless o (λ (number place : ℕ). x) (next x.report)).outcome ≡ Done → x.outcome ≡ Done
     go Done e h = e
-    go (Refused n p) e h = h
+    go (Err w) e h = h
 
 pub then_next : (x : Reported) (next : Report → Reported) (r : Report) → x ≡ record { outcome = Done; report = r } → and_then x next ≡ next r
 unfolding and_then unless

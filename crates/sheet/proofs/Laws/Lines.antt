@@ -87,12 +87,13 @@ module _ {l m sch : List ℕ} {at first cur k t : ℕ} (s : Stretched l at sch m
       }
 
 pub stretched_end : {l m sch : List ℕ} {at first cur k t : ℕ} → Stretched l at sch m first cur k t → length sch ≤ t → {r : List ℕ} {j : ℕ}
-    → Put m k (stretch first t cur) r j
+    → Put m k (stretch first (length sch) cur) r j
     → Put l at (stretches sch) r j
 unfolding longest_from stretch_lines
 stretched_end {l} {m} {sch} {at} {first} {cur} {k} {t} s h {r} {j} w =
     let e : s.done ++ stretch first t cur ≡ stretches sch = rw (drop_of_length-le sch {i = t} h, append-nil) at s.rest in
-    rw (← e) (put_more s.wrote w)
+    let last : t ≡ length sch = omega (arith, s.within) in
+    rw (← e, last) (put_more s.wrote w)
 
 pub stretches_none : (l : List ℕ) (at : ℕ) (sch : List ℕ) → length sch ≡ 0 → Put l at (stretches sch) l at
 unfolding longest stretch_lines stretches
@@ -101,7 +102,6 @@ stretches_none l at (e ∷ es) h = absurd (omega arith)
 
 word_length : (v : Verdict) → length (verdict_word v) ≤ 5
 unfolding verdict_word
-word_length (verdicts.Refused number place) = lit≤ tt
 word_length verdicts.Met = lit≤ tt
 word_length (verdicts.Late by is_exact) = lit≤ tt
 word_length verdicts.Ended = lit≤ tt
@@ -126,7 +126,6 @@ line_end xs = behind_words xs [] ∙ ap behind_first (append-nil xs)
 
 late_length : (v : Verdict) → length (spaced (lateness v)) ≤ 13
 unfolding spaced lateness
-late_length (verdicts.Refused number place) = lit≤ tt
 late_length verdicts.Met = lit≤ tt
 late_length (verdicts.Late by true) = simp length-append (omega (arith, decimal_length by))
 late_length (verdicts.Late by false) = simp length-append (omega (arith, decimal_length by))

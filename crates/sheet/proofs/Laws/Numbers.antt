@@ -10,14 +10,12 @@ use lib.ListN.{length, get_or, set, length-append}
 use lib.Seq.{sets, length-sets}
 use lib.Dec.{eqb}
 use borrow.Author.Tests.{eq-eqb, ne_eqb}
+use Rattle.std.specs.Prelude.{Option, Some, None}
 use Rattle.bits.proofs.Laws.Bools.{apart}
 use Rattle.bits.proofs.Laws.Lists.{sets_sets}
-use Rattle.text.specs.declared.answers.Number.{Number}
-use Rattle.text.specs.declared.answers.Number.TheVariants.{Value, Malformed}
+use Rattle.text.specs.Decimal.{Number, Value, Malformed}
 use Rattle.text.specs.Decimal.{decimal_at}
-use Rattle.text.proofs.Laws.Reading.{number_ends}
-use Rattle.sheet.specs.declared.input.Next.{Next}
-use Rattle.sheet.specs.declared.input.Next.TheVariants.{At, Broken}
+use Rattle.text.proofs.Laws.Reading.{after_of, number_ends}
 use Rattle.sheet.specs.Grammar.{ended_by, field_at, byte_behind, Numbers, got, bad, with_first, with_rest, fields_from}
 use Rattle.sheet.specs.Code.{NumbersAre}
 
@@ -97,14 +95,14 @@ module _ {s : List ℕ} {per n at : ℕ} {l m : List ℕ} {i k : ℕ} (f : Fille
         rest = sym (before_first d v (fields_from s per (i + 1) (n - (i + 1)) j)) ∙ ap (prefixed d) (sym (numbers_step s per i (n - i) k p e)) ∙ f.rest;
       }
 
-  pub filled_bad : i < n → field_at s k (byte_behind per i) ≡ Malformed → (x : List ℕ) → NumbersAre (fields_from s per 0 n at) Broken l x
+  pub filled_bad : i < n → field_at s k (byte_behind per i) ≡ Malformed → (x : List ℕ) → NumbersAre (fields_from s per 0 n at) None l x
   unfolding NumbersAre
   filled_bad h e x =
       let p : n - i ≡ suc (n - (i + 1)) = omega arith in
       let b : fields_from s per 0 n at ≡ bad = sym f.rest ∙ ap (prefixed f.done) (numbers_stop s per i (n - i) k p e) in
       rw b
 
-  pub filled_end : n ≤ i → NumbersAre (fields_from s per 0 n at) (At k) l m
+  pub filled_end : n ≤ i → NumbersAre (fields_from s per 0 n at) (Some k) l m
   unfolding NumbersAre
   filled_end h =
       let p : n - i ≡ 0 = omega arith in
@@ -112,14 +110,14 @@ module _ {s : List ℕ} {per n at : ℕ} {l m : List ℕ} {i k : ℕ} (f : Fille
       rw (g, append-nil) (refl, f.filled)
 
 -- what a caller learns: the numbers, which are as many as were asked for
-pub numbers_read : (f : Numbers) (r : Next) (l m : List ℕ) (k : ℕ) → NumbersAre f r l m → r ≡ At k → (vs : List ℕ) × (f ≡ got vs k) × (m ≡ sets l 0 vs)
+pub numbers_read : (f : Numbers) (r : Option ℕ) (l m : List ℕ) (k : ℕ) → NumbersAre f r l m → r ≡ Some k → (vs : List ℕ) × (f ≡ got vs k) × (m ≡ sets l 0 vs)
 unfolding NumbersAre
 numbers_read (got vs j) r l m k a e =
     let q : j ≡ k = cc (a.0, e) in
     (vs, ap (got vs) q, a.1)
 numbers_read bad r l m k a e = apart (cc)
 
-pub numbers_broken : (f : Numbers) (r : Next) (l m : List ℕ) → NumbersAre f r l m → r ≡ Broken → f ≡ bad
+pub numbers_broken : (f : Numbers) (r : Option ℕ) (l m : List ℕ) → NumbersAre f r l m → r ≡ None → f ≡ bad
 unfolding NumbersAre
 numbers_broken (got vs j) r l m a e = apart (cc (a.0, e))
 numbers_broken bad r l m a e = refl
@@ -153,7 +151,7 @@ field_ends s at end v k = by_number (decimal_at s at) refl
   where
     by_byte : (b : Bool) (u j : ℕ) → decimal_at s at ≡ Value u j → cond b (Value u (j + 1)) Malformed ≡ Value v k → k ≤ at + 6
     by_byte true u j q e =
-        let p : j + 1 ≡ k = cc in
+        let p : j + 1 ≡ k = ap after_of e in
         omega (arith, number_ends 5 s at u j q)
     by_byte false u j q e = apart (cc)
 

@@ -7,8 +7,8 @@ use native.Mathlib.Numerals.{add-one}
 use native.Mathlib.Omega.{arith}
 use lib.ListN.{length, length-append}
 use borrow.Author.Tests.{ltb-false}
-use Rattle.tables.specs.declared.answers.Outcome.{Outcome}
-use Rattle.tables.specs.declared.answers.Outcome.TheVariants.{Done, Refused}
+use Rattle.std.specs.Prelude.{Ok, Err}
+use Rattle.tables.specs.Outcomes.{Outcome, Done, Refused}
 use Rattle.zsrm.specs.declared.answers.Ran.{Ran}
 use Rattle.zsrm.specs.declared.answers.Verdict.{Verdict}
 use Rattle.zsrm.specs.declared.answers.Verdicts.{Verdicts}
@@ -42,7 +42,7 @@ module _ {mode : Mode} {tasks jobs : List ℕ} {r : Record} (w : Judgeable mode 
   few = lists_few (lists tasks jobs) w.lists
 
   -- all verdicts that the library answers are the verdicts
-  pub all_judged : {all : Verdicts} → all ≡ verdicts_answer (given mode tasks jobs) r → (j : ℕ) → j < job_count jobs → verdict_of all j ≡ verdict (lists tasks jobs) r j
+  pub all_judged : {all : Verdicts} → all ≡ verdicts_answer (given mode tasks jobs) r → (j : ℕ) → j < job_count jobs → verdict_of all j ≡ Ok (verdict (lists tasks jobs) r j)
   all_judged p j l =
       ap (λ (x : Verdicts). verdict_of x j) p ∙ verdicts_each (given mode tasks jobs) r j _ (omega (arith, few))
       ∙ verdict_answered (given mode tasks jobs) w.lists r w.sound j l
@@ -122,4 +122,4 @@ given_length g horizon = by_check (before (check_lists g.lists) (check9 horizon)
     by_check Done e =
         run_length g horizon (ltb-false 16384 horizon (refuse_fine _ _ _ (before_second (check_lists g.lists) _ e)))
         (lists_few g.lists (before_first (check_lists g.lists) _ e))
-    by_check (Refused number place) e = omega (arith, refused_length number place)
+    by_check (Err w) e = omega (arith, refused_length w.number w.place)

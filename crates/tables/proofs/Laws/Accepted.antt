@@ -12,7 +12,7 @@ use borrow.Author.Tests.{eq-eqb, eqb-true, lt-ltb, ltb-false, ltb-true, not-fals
 use Rattle.bits.specs.Below.{greatest}
 use Rattle.bits.proofs.Laws.Bools.{and_false}
 use Rattle.bits.proofs.Laws.Most.{Most, greatest_found}
-use Rattle.tables.specs.declared.answers.Outcome.TheVariants.{Done}
+use Rattle.tables.specs.Outcomes.{Done}
 use Rattle.tables.specs.Refusals.{before, check2, check3, check4, check5, check6, check7, check8, check_jobs, check_tasks, outside, preceding, check_lists, check9, check10, check_schedule, refuse}
 use Rattle.tables.specs.Tables.{arrival, criticality, deadline, execution, job_count, nominal, overload, period}
 use Rattle.tables.specs.Tables.{priority, task_count, task_of, offset, Lists, deadline_instant, job_criticality, job_priority, zero_slack_instant}

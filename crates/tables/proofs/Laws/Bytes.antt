@@ -7,8 +7,10 @@ use native.Mathlib.Nat.{div-add-mod, mul_comm, mul-div_cancel, mul-le-mul_right,
 use native.Mathlib.Numerals.{add-one}
 use native.Mathlib.Omega.{arith}
 use lib.Dec.{leb}
-use lib.ListN.{drop, get_or, length, length-append, set, take, get_or-append, get_or-eq_default}
+use lib.ListN.{drop, get_or, length, length-append, take, get_or-append, get_or-eq_default}
 use lib.Seq.{drop-cons, drop-drop, get_or-append-add, length-sets, length-take-le, sets, sets-eq, take-add, take_all, take-suc}
+use Rattle.std.proofs.lemmas.Grind.{common_steps}
+use borrow.Rule.Slice.PartMut.{put_mid}
 use borrow.Author.Tests.{le-leb, lt-leb}
 use Rattle.bits.specs.Below.{list_from}
 use Rattle.bits.proofs.Laws.Bools.{by_cond}
@@ -110,6 +112,10 @@ pub put_fits : (w : ℕ) (l : List ℕ) (at x : ℕ) → at + w ≤ length l →
 unfolding put_at
 put_fits w l at x h = rw (le-leb (at + w) (length l) h)
 
+-- what is copied over a part stands there
+pub middle_put : (l vs : List ℕ) (at k : ℕ) → k ≡ length vs → at + k ≤ length l → put_mid at k l vs ≡ sets l at vs
+middle_put l vs at k e h = grind (arith, common_steps, sets-eq)
+
 pub put_past : (w : ℕ) (l : List ℕ) (at x : ℕ) → length l < at + w → l ≡ put_at w l at x
 unfolding put_at
 put_past w l at x h = rw (lt-leb (at + w) (length l) h)
@@ -120,17 +126,6 @@ length_put w l at x =
     by_cond (λ (m : List ℕ). length m ≡ length l) (leb (at + w) (length l)) (sets l at (number_bytes w x)) l (λ _. length-sets l at (number_bytes w x)) (λ _. refl)
 
 -- two stores are a number, and four
-pub put_two : (l : List ℕ) (at x : ℕ) → at + 1 < length l → set (set l at (x % 256)) (at + 1) (x / 256) ≡ put_at 2 l at x
-put_two l at x h = rw (put_fits 2 l at x (omega arith), bytes2, add-one)
-
-pub put_four : (l : List ℕ) (at x : ℕ) → at + 3 < length l
-    → set (set (set (set l at (x % 256)) (at + 1) (x / 256 % 256)) (at + 2) (x / 65536 % 256)) (at + 3) (x / 16777216) ≡ put_at 4 l at x
-put_four l at x h =
-    let one : at + 1 ≡ suc at = omega arith in
-    let two : at + 2 ≡ suc (suc at) = omega arith in
-    let three : at + 3 ≡ suc (suc (suc at)) = omega arith in
-    rw (put_fits 4 l at x (omega arith), bytes4, one, two, three)
-
 pub put_none : (w : ℕ) (l xs : List ℕ) (at : ℕ) → l ≡ sets l at (bytes_of w (take 0 xs))
 unfolding bytes_of
 put_none w l xs at = refl

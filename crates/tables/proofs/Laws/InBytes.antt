@@ -8,8 +8,7 @@ use native.Mathlib.Omega.{arith}
 use lib.Dec.{eqb, ltb}
 use lib.ListN.{get_or, length}
 use borrow.Author.Tests.{eq-eqb}
-use Rattle.tables.specs.declared.answers.Outcome.{Outcome}
-use Rattle.tables.specs.declared.answers.Outcome.TheVariants.{Done}
+use Rattle.tables.specs.Outcomes.{Outcome, Done}
 use Rattle.tables.specs.declared.fields.Job.{Job}
 use Rattle.tables.specs.declared.fields.Task.{Task}
 use Rattle.tables.specs.Bytes.{check_jobs_in, check_lists_in, check_tasks_in, number_at, numbers_in, uneven}
@@ -77,10 +76,6 @@ module _ (bytes : List ℕ) where
       (ascending (length bytes / 4 / 7) (λ k. before (check3 (numbers_in 4 bytes) k) (check4 (numbers_in 4 bytes) k)))
   unfolding check_tasks_in uneven check_tasks check2 outside task_count
   tasks_in = rw (length_numbers 4 bytes) (refuse_either (not (eqb (length bytes % 4) 0)) _ 2 0 _)
-
-  pub few_tasks_in : check_tasks_in bytes ≡ Done → task_count (numbers_in 4 bytes) ≤ 16
-  unfolding check_tasks_in
-  few_tasks_in ok = few_tasks (numbers_in 4 bytes) (before_second (uneven (length bytes) 4 2) _ ok)
 
 -- a job list's
 pub jobs_in : (tasks jobs : List ℕ) → check_jobs_in tasks jobs

@@ -5,7 +5,6 @@ use mathlib.Core.Bool.{◌&&◌, Bool, cond, false, not, true, ◌||◌}
 use mathlib.Core.List.{List}
 use mathlib.Core.Path.{ap, refl, sym, ◌∙◌, ◌≡◌}
 use native.Mathlib.Decide.{ℕ_discrete}
-use native.Mathlib.Nat.{le_antisymm}
 use native.Mathlib.Numerals.{add-one}
 use native.Mathlib.Omega.{arith}
 use lib.Dec.{eqb, ltb}
@@ -13,15 +12,15 @@ use lib.ListN.{get_or, get_or-replicate, length-set, replicate, set}
 use lib.Seq.{get_or-set_other, get_or-set_same}
 use borrow.Author.Tests.{eq-eqb, le-ltb, lt-ltb, ltb-true, ne_eqb}
 use Rattle.bits.specs.Below.{greatest}
-use Rattle.tables.specs.declared.answers.Outcome.{Outcome}
-use Rattle.tables.specs.declared.answers.Outcome.TheVariants.{Done}
+use Rattle.std.specs.Prelude.{Ok, ⊤}
+use Rattle.tables.specs.Outcomes.{Outcome, Done}
 use Rattle.tables.specs.declared.fields.Job.{Job}
 use Rattle.tables.specs.declared.fields.Task.{Task}
 use Rattle.tables.specs.Tables.{arrival, period, task_count, task_of}
 use Rattle.tables.specs.Fields.{task_at, job_at}
 use Rattle.tables.specs.Refusals.{ascending, before, check6, check7, check8, preceding, refuse}
 use Rattle.tables.specs.Code.{Noted, Seen, last_arrival, soonest}
-use Rattle.tables.proofs.Laws.Refusals.{ascending_more, ascending_none, before_same, fine}
+use Rattle.tables.proofs.Laws.Refusals.{ascending_none, before_same, fine, still_done}
 
 -- 6, 7, 8 of one job
 abbrev pub job_checked : List ℕ → List ℕ → ℕ → Outcome
@@ -115,30 +114,29 @@ module _ (tasks jobs : List ℕ) where
       let allowed = rw w.own at w.allowed in
       ap (λ (x : ℕ). before (check7 jobs j) (refuse (ltb (arrival jobs j) x) 8 j)) (allowed known) ∙ ap (before (check7 jobs j)) (eight_seen j)))
 
--- the first j jobs are looked at
-pub record Looked (tasks jobs : List ℕ) (j : ℕ) (noted : List ℕ) (above : ℕ) (found : Outcome) : Type 0 where
-  pub all : found ≡ ascending j (job_checked tasks jobs)
+-- the first j jobs are looked at, and none is refused
+pub record Looked (tasks jobs : List ℕ) (j : ℕ) (noted : List ℕ) (above : ℕ) : Type 0 where
+  pub all : ascending j (job_checked tasks jobs) ≡ Done
   pub last : above ≡ last_arrival jobs j
   pub each : Noted tasks jobs j noted
 
 module _ (tasks jobs : List ℕ) where
-  pub looked_none : (noted : List ℕ) → noted ≡ replicate 16 0 → Looked tasks jobs 0 noted 0 Done
-  looked_none noted e = record { all = sym (ascending_none _); last = sym (last_none jobs); each = noted_none tasks jobs noted e }
+  pub looked_none : (noted : List ℕ) → noted ≡ replicate 16 0 → Looked tasks jobs 0 noted 0
+  looked_none noted e = record { all = ascending_none _; last = sym (last_none jobs); each = noted_none tasks jobs noted e }
 
-  -- one more: its check, what the checks come to with it, and the list with it noted
-  pub looked_more : (j : ℕ) (noted : List ℕ) (above : ℕ) (found : Outcome) → Looked tasks jobs j noted above found
-      → (job : Job) (task : Task) (count from : ℕ) (one next : Outcome) (after : List ℕ) → job ≡ job_at jobs j → task ≡ task_at tasks job.task
-      → count ≡ task_count tasks → (job.task < task_count tasks → from ≡ soonest tasks jobs j job.task)
-      → ((ts js : List ℕ) → Seen ts js j job task count above from → one ≡ job_checked ts js j)
-      → next ≡ before found one → after ≡ set noted job.task (job.arrival + task.period) → Looked tasks jobs (j + 1) after job.arrival next
-  looked_more j noted above found w job task count from one next after own of_task_law counted allowed checked on put =
-      let seen : Seen tasks jobs j job task count above from = record { own = own; of_task_law = of_task_law; tasks_counted = counted; last = w.last; allowed = allowed } in
-      record {
-        all = rw (ascending_more, on, checked tasks jobs seen, w.all);
-        last = rw own (sym (last_more jobs j));
-        each = rw (put, of_task_law, own) (noted_more tasks jobs j noted w.each);
-      }
+  module _ (j : ℕ) (noted : List ℕ) (above : ℕ) (w : Looked tasks jobs j noted above) (job : Job) (task : Task) (count from : ℕ) (one : Outcome)
+      (own : job ≡ job_at jobs j) (of_task_law : task ≡ task_at tasks job.task) (counted : count ≡ task_count tasks)
+      (allowed : job.task < task_count tasks → from ≡ soonest tasks jobs j job.task)
+      (checked : (ts js : List ℕ) → Seen ts js j job task count above from → one ≡ job_checked ts js j) where
+    -- one more: its check ..
+    pub looked_here : one ≡ job_checked tasks jobs j
+    looked_here = checked tasks jobs (record { own = own; of_task_law = of_task_law; tasks_counted = counted; last = w.last; allowed = allowed })
 
-  pub looked_all : (j n : ℕ) (noted : List ℕ) (above : ℕ) (found : Outcome) → Looked tasks jobs j noted above found → j ≤ n → n ≤ j
-      → found ≡ ascending n (job_checked tasks jobs)
-  looked_all j n noted above found w l m = rw (le_antisymm m l) w.all
+    -- .. and where it is done, the list with it noted
+    pub looked_more : {u : ⊤} (after : List ℕ) → one ≡ Ok u → after ≡ set noted job.task (job.arrival + task.period) → Looked tasks jobs (j + 1) after job.arrival
+    looked_more after done put =
+        record {
+          all = still_done (job_checked tasks jobs) j w.all looked_here done;
+          last = rw own (sym (last_more jobs j));
+          each = rw (put, of_task_law, own) (noted_more tasks jobs j noted w.each);
+        }

@@ -5,17 +5,42 @@ use mathlib.Core.Bool.{Bool, false, true}
 use mathlib.Core.Logic.{inl, inr, ◌⊎◌, ◌↔◌}
 use mathlib.Core.Path.{ap, refl, sym, ◌∙◌, ◌≡◌}
 use mathlib.Core.List.{◌++◌, List, [], ◌∷◌}
-use native.Mathlib.Nat.{not-suc-le-zero}
+use native.Mathlib.Nat.{le_antisymm, not-suc-le-zero}
 use native.Mathlib.Numerals.{add-one}
 use native.Mathlib.Omega.{arith}
 use lib.Dec.{lit≤}
 use borrow.Author.Tests.{ltb-false, not-false}
 use Rattle.bits.proofs.Laws.Below.{last_or_below}
 use Rattle.bits.proofs.Laws.Bools.{or_left_false, or_right_false, apart}
-use Rattle.tables.specs.declared.answers.Outcome.{Outcome}
-use Rattle.tables.specs.declared.answers.Outcome.TheVariants.{Done, Refused}
+use Rattle.std.specs.Prelude.{Result, Ok, Err, IsErr, IsErrAnd, ⊤}
+use Rattle.tables.specs.declared.answers.Refusal.{Refusal}
+use Rattle.tables.specs.Outcomes.{Outcome, Done, Refused}
 use Rattle.tables.specs.Refusals.{ascending, before, refuse, unless, check2, check3, check4, check5, check6, check7, check8, check_jobs, check_lists, check_tasks}
 use Rattle.tables.specs.Tables.{Lists, job_count, task_count}
+
+-- an answer is one
+pub same_ok : {A : Type 0} {a b : A} → ◌≡◌ {A = Result A Refusal} (Ok a) (Ok b) → a ≡ b
+same_ok e = cc
+
+-- a refusal has one number and one place
+pub refused_same : {A : Type 0} (n p number place : ℕ) → ◌≡◌ {A = Result A Refusal} (Refused n p) (Refused number place) → (n ≡ number) × (p ≡ place)
+refused_same {A} n p number place e = (ap numbered e, ap placed e)
+  where
+    numbered : Result A Refusal → ℕ
+    numbered (Ok u) = 0
+    numbered (Err w) = w.number
+
+    placed : Result A Refusal → ℕ
+    placed (Ok u) = 0
+    placed (Err w) = w.place
+
+-- and they are all of it
+pub same_refusal : (v w : Refusal) → v.number ≡ w.number → v.place ≡ w.place → ◌≡◌ {A = Refusal} v w
+same_refusal v w a b =
+    ap (λ (n : ℕ). at n v.place) a ∙ ap (λ (p : ℕ). at w.number p) b
+  where
+    at : ℕ → ℕ → Refusal
+    at number place = record { number = number; place = place }
 
 pub refuse_fine : (b : Bool) (number place : ℕ) → refuse b number place ≡ Done → b ≡ false
 unfolding refuse
@@ -25,18 +50,18 @@ refuse_fine false n p e = refl
 -- one that refuses has its own number and place, and its test passed
 pub refused_number : (b : Bool) (n p number place : ℕ) → refuse b n p ≡ Refused number place → (b ≡ true) × (number ≡ n) × (place ≡ p)
 unfolding refuse
-refused_number true n p number place e = (refl, cc, cc)
+refused_number true n p number place e = let w = refused_same n p number place e in (refl, sym w.0, sym w.1)
 refused_number false n p number place e = apart (cc)
 
 pub before_first : (a b : Outcome) → before a b ≡ Done → a ≡ Done
 unfolding before
-before_first Done b e = refl
-before_first (Refused n p) b e = e
+before_first (Ok u) b e = refl
+before_first (Err w) b e = e
 
 pub before_second : (a b : Outcome) → before a b ≡ Done → b ≡ Done
 unfolding before
-before_second Done b e = e
-before_second (Refused n p) b e = apart (cc)
+before_second (Ok u) b e = e
+before_second (Err w) b e = apart (cc)
 
 -- the first check decides, or leaves it to the later
 pub before_passes : (a b : Outcome) → a ≡ Done → before a b ≡ b
@@ -47,21 +72,44 @@ pub before_stops : (a b : Outcome) (number place : ℕ) → a ≡ Refused number
 unfolding before
 before_stops a b number place e = rw e
 
+-- the same as `?` meets them: what it hands back is the first check's refusal itself, and past it that check is done
+module _ (first later : Outcome) {a r : Outcome} where
+  pub stops : {w : Refusal} → a ≡ first → a ≡ Err w → IsErrAnd r (λ x. x ≡ w) → r ≡ before first later
+  unfolding before
+  stops {w = w} e q h = rw (← e, q) (at r h)
+    where
+      at : (o : Outcome) → IsErrAnd o (λ x. x ≡ w) → o ≡ Err w
+      at (Ok u) h = absurd h
+      at (Err x) h = rw h
+
+  pub goes_on : {u : ⊤} → a ≡ first → a ≡ Ok u → r ≡ later → r ≡ before first later
+  unfolding before
+  goes_on e q h = rw (← e, q, h)
+
+-- what is handed back is what was found, and not done
+pub handed_back : {a r : Outcome} {w : Refusal} → a ≡ Err w → IsErrAnd r (λ x. x ≡ w) → r ≡ a
+handed_back {r = Ok u} q h = absurd h
+handed_back {r = Err x} q h = rw (q, h)
+
+pub stop_apart : {A : Type 0} {o : Outcome} → o ≡ Done → IsErr o → A
+stop_apart {o = Ok u} e h = apart (cc)
+stop_apart {o = Err w} e h = apart (cc)
+
 pub before_assoc : (a b c : Outcome) → before (before a b) c ≡ before a (before b c)
 unfolding before
-before_assoc Done b c = refl
-before_assoc (Refused number place) b c = refl
+before_assoc (Ok u) b c = refl
+before_assoc (Err w) b c = refl
 
 -- the later check matters only where the first is done
 pub before_same : (a : Outcome) {b c : Outcome} → (a ≡ Done → b ≡ c) → before a b ≡ before a c
 unfolding before
-before_same Done h = h refl
-before_same (Refused number place) h = refl
+before_same (Ok u) h = h refl
+before_same (Err w) h = refl
 
 pub before_last : (a : Outcome) → before a Done ≡ a
 unfolding before
-before_last Done = refl
-before_last (Refused number place) = refl
+before_last (Ok u) = refl
+before_last (Err w) = refl
 
 pub ascending_at : (f : ℕ → Outcome) (n k : ℕ) → k < n → ascending n f ≡ Done → f k ≡ Done
 unfolding ascending
@@ -92,8 +140,8 @@ module _ (f : ℕ → Outcome) where
   refused_first (suc n) i l q p = go (last_or_below n i l) (refused_first n i)
     where
       stop : (c : Outcome) → (c ≡ Done → ⊥) → before c (f n) ≡ c
-      stop Done h = absurd (h refl)
-      stop (Refused x y) h = refl
+      stop (Ok u) h = absurd (h refl)
+      stop (Err w) h = refl
 
       go : (i ≡ n) ⊎ (i < n) → (i < n → ascending i f ≡ Done → (f i ≡ Done → ⊥) → ascending n f ≡ f i) → before (ascending n f) (f n) ≡ f i
       go (inl e) ih = ap (λ (c : Outcome). before c (f n)) (ap (λ (k : ℕ). ascending k f) (sym e) ∙ q) ∙ ap f (sym e)
@@ -102,10 +150,23 @@ module _ (f : ℕ → Outcome) where
   pub refused_here : (n i : ℕ) (c : Outcome) (x y : ℕ) → i < n → ascending i f ≡ Done → c ≡ f i → c ≡ Refused x y → Refused x y ≡ ascending n f
   refused_here n i c x y l q p r = sym (refused_first n i l q (λ z. apart (cc)) ∙ sym p ∙ r)
 
+  -- with `?` it goes on only while all are done, behind a first check: one more, the first that refuses, and the end
+  pub still_done : (k : ℕ) {o : Outcome} {u : ⊤} → ascending k f ≡ Done → o ≡ f k → o ≡ Ok u → ascending (k + 1) f ≡ Done
+  unfolding before
+  still_done k w e q = rw (ascending_more k, w, ← e, q)
+
+  pub stops_at : (n k : ℕ) (first : Outcome) {a o r : Outcome} {u : ⊤} {w : Refusal} → a ≡ first → a ≡ Ok u → k < n → ascending k f ≡ Done → o ≡ f k → o ≡ Err w
+      → IsErrAnd r (λ x. x ≡ w) → r ≡ before first (ascending n f)
+  stops_at n k first e p l d g q h =
+      goes_on first _ e p (stops (f k) Done g q h ∙ before_last (f k) ∙ sym (refused_first n k l d (λ z. let x = sym g ∙ q in apart (cc))))
+
+  pub all_passed : (n k : ℕ) (first : Outcome) {a : Outcome} {u : ⊤} → a ≡ first → a ≡ Ok u → k ≤ n → n ≤ k → ascending k f ≡ Done → Done ≡ before first (ascending n f)
+  all_passed n k first e p l m d = goes_on first _ e p (sym d ∙ ap (λ (i : ℕ). ascending i f) (le_antisymm l m))
+
 -- a check that refuses has a number that P holds of
 abbrev pub Numbered : (ℕ → Type 0) → Outcome → Type 0
-Numbered P Done = Unit {0}
-Numbered P (Refused number place) = P number
+Numbered P (Ok u) = Unit {0}
+Numbered P (Err w) = P w.number
 
 module _ (P : ℕ → Type 0) where
   pub numbered_refuse : (b : Bool) (number place : ℕ) → P number → Numbered P (refuse b number place)
@@ -115,8 +176,8 @@ module _ (P : ℕ → Type 0) where
 
   pub numbered_before : (a b : Outcome) → Numbered P a → Numbered P b → Numbered P (before a b)
   unfolding before
-  numbered_before Done b p q = q
-  numbered_before (Refused number place) b p q = p
+  numbered_before (Ok u) b p q = q
+  numbered_before (Err w) b p q = p
 
   pub numbered_ascending : (f : ℕ → Outcome) (n : ℕ) → ((k : ℕ) → Numbered P (f k)) → Numbered P (ascending n f)
   unfolding ascending
@@ -159,8 +220,8 @@ only_refuse false number place never = absurd (never refl)
 
 pub only_before : (number place : ℕ) (a b : Outcome) → Only number place a → Only number place b → Only number place (before a b)
 unfolding before
-only_before number place Done b p q never = q never
-only_before number place (Refused n m) b p q never = p never
+only_before number place (Ok u) b p q never = q never
+only_before number place (Err w) b p q never = p never
 
 -- one such, done exactly where A holds, refuses exactly where it does not
 pub only_exactly : {A : Type 0} (number place : ℕ) (o : Outcome) → Only number place o → (o ≡ Done ↔ A) → o ≡ Refused number place ↔ (A → ⊥)
@@ -187,8 +248,8 @@ abbrev pub Other : ℕ → Outcome → Type 0
 Other number = Numbered (λ n. n ≡ number → ⊥)
 
 pub other_none : (number : ℕ) (o : Outcome) → ((place : ℕ) → o ≡ Refused number place → ⊥) → Other number o
-other_none number Done never = tt
-other_none number (Refused n p) never = λ e. never p (ap (λ (x : ℕ). Refused x p) e)
+other_none number (Ok u) never = tt
+other_none number (Err w) never = λ e. never w.place (ap (λ (x : ℕ). Refused x w.place) e)
 
 abbrev pub Others : ℕ → List Outcome → Type 0
 Others number [] = Unit {0}
@@ -217,16 +278,16 @@ unfolding first_of before
 own_refused cs c ds number place before-it behind = (there cs before-it, λ w. first_refused cs c ds number place w.0 w.1)
   where
     none : (o : Outcome) → Other number o → o ≡ Refused number place → ⊥
-    none Done w e = apart (cc)
-    none (Refused n p) w e = w (cc)
+    none (Ok u) w e = apart (cc)
+    none (Err r) w e = w (cc)
 
     behind_none : (ds : List Outcome) → Others number ds → Other number (first_of ds)
     behind_none [] w = tt
     behind_none (d ∷ ds) w = rw (first_more d ds) (numbered_before _ d (first_of ds) w.0 (behind_none ds w.1))
 
     own : (o : Outcome) → c ≡ o → before o (first_of ds) ≡ Refused number place → c ≡ Refused number place
-    own Done q e = absurd (none (first_of ds) (behind_none ds behind) e)
-    own (Refused n p) q e = q ∙ e
+    own (Ok u) q e = absurd (none (first_of ds) (behind_none ds behind) e)
+    own (Err w) q e = q ∙ e
 
     there : (cs : List Outcome) → Others number cs → first_of (cs ++ (c ∷ ds)) ≡ Refused number place → AllDone cs × (c ≡ Refused number place)
     there [] w e = (tt, own c refl (sym (first_more c ds) ∙ e))
@@ -234,8 +295,8 @@ own_refused cs c ds number place before-it behind = (there cs before-it, λ w. f
       where
         go : (o : Outcome) → d ≡ o → Other number o → before o (first_of (cs ++ (c ∷ ds))) ≡ Refused number place
             → (first_of (cs ++ (c ∷ ds)) ≡ Refused number place → AllDone cs × (c ≡ Refused number place)) → ((d ≡ Done) × AllDone cs) × (c ≡ Refused number place)
-        go Done q u e ih = let r = ih e in ((q, r.0), r.1)
-        go (Refused n p) q u e ih = absurd (none (Refused n p) u e)
+        go (Ok v) q u e ih = let r = ih e in ((q, r.0), r.1)
+        go (Err w) q u e ih = absurd (none (Err w) u e)
 
 -- what is answered where nothing is refused, and where something is
 module _ {A : Type 0} (refused : ℕ → ℕ → A) (answer : A) where
@@ -250,12 +311,30 @@ module _ {A : Type 0} (refused : ℕ → ℕ → A) (answer : A) where
   -- an answer that is none of the refusals says that nothing was refused ..
   pub answered : (x : A) → ((number place : ℕ) → refused number place ≡ x → ⊥) → (o : Outcome) → unless o refused answer ≡ x ↔ (o ≡ Done) × (answer ≡ x)
   unfolding unless
-  answered x never Done = (λ e. (refl, e), λ w. w.1)
-  answered x never (Refused n p) = (λ e. absurd (never n p e), λ w. let q = w.0 in apart (cc))
+  answered x never (Ok u) = (λ e. (refl, e), λ w. w.1)
+  answered x never (Err w) = (λ e. absurd (never w.number w.place e), λ v. let q = v.0 in apart (cc))
 
-  -- .. and one of them, where the answer itself is none, that it was refused so
-  pub refused_by : ((n p number place : ℕ) → refused n p ≡ refused number place → Refused n p ≡ Refused number place)
-      → ((number place : ℕ) → answer ≡ refused number place → ⊥) → (o : Outcome) (number place : ℕ) → unless o refused answer ≡ refused number place ↔ o ≡ Refused number place
+-- an answer that may be refused is refused exactly as its checks are, and given exactly where they are done
+module _ {A : Type 0} (answer : A) where
+  pub refused_by : (o : Outcome) (number place : ℕ) → unless o Refused (Ok answer) ≡ Refused number place ↔ o ≡ Refused number place
   unfolding unless
-  refused_by alike never Done number place = (λ e. absurd (never number place e), λ e. apart (cc))
-  refused_by alike never (Refused n p) number place = (alike n p number place, λ e. unless_refused (Refused n p) number place e)
+  refused_by Done number place = (λ e. apart (cc), λ e. apart (cc))
+  refused_by (Err w) number place = (
+    λ e. let q = refused_same w.number w.place number place e in ap (λ (r : Refusal). Err r) (same_refusal w (record { number = number; place = place }) q.0 q.1),
+    λ e. unless_refused Refused (Ok answer) (Err w) number place e,
+  )
+
+  -- by `?`: what it hands back is the refusal itself, and past it there is the answer
+  pub stops_answer : (first : Outcome) {a : Outcome} {r : Result A Refusal} {w : Refusal} → a ≡ first → a ≡ Err w → IsErrAnd r (λ x. x ≡ w) → r ≡ unless first Refused (Ok answer)
+  unfolding unless
+  stops_answer first {r = Ok u} e q h = absurd h
+  stops_answer first {r = Err x} e q h = rw (← e, q, h)
+
+  pub gives_answer : (first : Outcome) {a : Outcome} {u : ⊤} {x : A} → a ≡ first → a ≡ Ok u → x ≡ answer → Ok x ≡ unless first Refused (Ok answer)
+  unfolding unless
+  gives_answer first e q h = rw (← e, q, h)
+
+  pub given_by : (o : Outcome) (a : A) → unless o Refused (Ok answer) ≡ Ok a ↔ (o ≡ Done) × (answer ≡ a)
+  unfolding unless
+  given_by Done a = (λ e. (refl, cc), λ w. ap (λ (x : A). Ok x) w.1)
+  given_by (Err w) a = (λ e. apart (cc), λ v. let q = v.0 in apart (cc))

@@ -8,15 +8,15 @@ use native.Mathlib.Omega.{arith}
 use lib.Dec.{eqb, lit≤}
 use lib.ListN.{length}
 use borrow.Author.Tests.{eqb-true, lt-ltb, not-false}
-use Rattle.tables.specs.declared.answers.Outcome.{Outcome}
-use Rattle.tables.specs.declared.answers.Outcome.TheVariants.{Done, Refused}
+use Rattle.std.specs.Prelude.{Ok, Err}
+use Rattle.tables.specs.Outcomes.{Outcome, Done, Refused}
 use Rattle.tables.specs.Refusals.{ascending, before, check2, check3, check4, check5, check6, check7, check8, check_jobs, check_tasks, outside, refuse}
 use Rattle.tables.specs.Tables.{job_count, task_count}
 use Rattle.tables.proofs.Laws.Refusals.{fine}
 
 abbrev pub Small : Outcome → Type 0
-Small Done = Unit {0}
-Small (Refused number place) = (1 ≤ number) × (number ≤ 13) × (place ≤ 64)
+Small (Ok u) = Unit {0}
+Small (Err w) = (1 ≤ w.number) × (w.number ≤ 13) × (w.place ≤ 64)
 
 pub small_refuse : (b : Bool) (number place : ℕ) → 1 ≤ number → number ≤ 13 → place ≤ 64 → Small (refuse b number place)
 unfolding refuse
@@ -26,8 +26,8 @@ small_refuse false n p g h k = tt
 -- a later check matters only where the earlier one is done
 pub small_before : (a b : Outcome) → Small a → (a ≡ Done → Small b) → Small (before a b)
 unfolding before
-small_before Done b h k = k refl
-small_before (Refused n p) b h k = h
+small_before (Ok u) b h k = k refl
+small_before (Err w) b h k = h
 
 -- `search small` reads off that checks in a row are small, where each of their numbers and places is
 pub ruleset small = (small_refuse, small_before, lit≤)

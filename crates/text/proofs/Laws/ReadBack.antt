@@ -8,7 +8,7 @@ use native.Mathlib.Omega.{arith}
 use lib.ListN.{drop, get_or, length, take}
 use lib.Seq.{drop_at, length-take-le, sets-eq}
 use borrow.Author.Tests.{le-leb}
-use Rattle.text.specs.declared.answers.Number.TheVariants.{Value}
+use Rattle.text.specs.Decimal.{Value}
 use Rattle.text.specs.Wrote.{Put}
 use Rattle.text.specs.Decimal.{decimal, digits, is_digit, as_number, leading, number_within, size, spelled}
 use Rattle.text.proofs.Laws.Reading.{digit_yes, leading_stop}

@@ -11,7 +11,7 @@ use lib.ListN.{drop, get_or, length}
 use lib.Seq.{drop-nil}
 use borrow.Author.Tests.{le-leb, leb-true, lt-leb}
 use Rattle.bits.proofs.Laws.Bools.{apart}
-use Rattle.text.specs.declared.answers.Number.TheVariants.{Malformed, Value}
+use Rattle.text.specs.Decimal.{Malformed, Number, Value}
 use Rattle.text.specs.Decimal.{is_digit, as_number, leading, number_within, spelled}
 
 -- a byte stands only within the text
@@ -105,6 +105,11 @@ module _ {s : List ℕ} {most at value n k : ℕ} (r : Read s most at value n k)
     unfolding number_within as_number
     read_end l h = rw (all.0, all.1, le-leb _ _ l, le-leb _ _ r.few, le-leb _ _ h, r.place)
 
+-- the position after a number
+abbrev pub after_of : Number → ℕ
+after_of (Value v after) = after
+after_of Malformed = 0
+
 -- a number ends after its digits
 pub number_ends : (most : ℕ) (s : List ℕ) (at v k : ℕ) → number_within most s at ≡ Value v k → k ≤ at + most
 unfolding number_within as_number
@@ -113,7 +118,7 @@ number_ends most s at v k = by_test (leading (drop at s)) (leb 1 (length (leadin
     by_test : (ds : List ℕ) (some few within : Bool) → leb (length ds) most ≡ few → cond (some && few && within) (Value (spelled 0 ds) (at + length ds)) Malformed ≡ Value v k
         → k ≤ at + most
     by_test ds true true true q e =
-        let p : at + length ds ≡ k = cc in
+        let p : at + length ds ≡ k = ap after_of e in
         omega (arith, leb-true (length ds) most q)
     by_test ds true true false q e = apart (cc)
     by_test ds true false within q e = apart (cc)

@@ -3,14 +3,14 @@ use lib.Seq.{take_all}
 use Rattle.text.proofs.Laws.Put.{put_length, put_next, put_none}
 use Rattle.text.proofs.put_text.Goals as goal
 
-pub loop-i-init : goal.loop-i-init
-loop-i-init c = (search rules, put_none _ _)
+pub loop-b-init : goal.loop-b-init
+loop-b-init c = put_none _ _
 
-pub loop-i-preserved : goal.loop-i-preserved
-loop-i-preserved c = (search rules, put_next c.args.text.now c.loop-i.invariant.1 c.put_byte-k.ensures (search rules))
+pub loop-b-preserved : goal.loop-b-preserved
+loop-b-preserved c = put_next c.args.text.now c.loop-b.invariant c.put_byte-k.ensures (search rules)
 
 pub shape_of-out : goal.shape_of-out
-shape_of-out c = put_length c.loop-i.invariant.1
+shape_of-out c = put_length c.loop-b.invariant
 
 pub returns : goal.returns
-returns c = rw (take_all c.loop-i.i c.args.text.now (search rules)) at c.loop-i.invariant.1
+returns c = rw (take_all c.loop-b.b-index c.args.text.now (search rules)) at c.loop-b.invariant

@@ -2,19 +2,22 @@
 use Prim.Native.Nat.{ℕ, suc, ◌+◌, ◌-◌, ◌<◌, ◌≤◌}
 use mathlib.Core.Bool.{Bool, cond, false, true}
 use mathlib.Core.List.{List, [], ◌++◌, ◌∷◌, append-nil, map, map-append}
-use mathlib.Core.Logic.{inl, inr, ◌⊎◌, ⊎_elim}
+use mathlib.Core.Logic.{inl, inr, ◌⊎◌}
 use mathlib.Core.Path.{ap, refl, sym, ◌∙◌, ◌≡◌}
+use mir.Val.{bool_byte}
 use native.Mathlib.Omega.{arith}
 use lib.Dec.{eqb, leb, ltb}
 use lib.ListN.{get_or-append, get_or, get_or-replicate, length, length-append, length-replicate, length-set, replicate, set, take}
 use lib.Seq.{get_or-append_seam, get_or-set_other, get_or-set_same, take_all, take-append-le, take-nil}
 use borrow.Author.Tests.{le-leb, leb-true, lt-leb, lt-ltb, ltb-true}
-use Rattle.bits.specs.Below.{least, some}
-use Rattle.bits.proofs.Laws.Below.{last_or_below, least_found, least_none, least_same}
-use Rattle.bits.proofs.Laws.Bools.{either, same_test}
+use Rattle.bits.specs.Below.{least}
+use Rattle.bits.proofs.Laws.Below.{last_or_below, least_same}
+use Rattle.bits.proofs.Laws.Bools.{same_test}
+use Rattle.std.specs.Prelude.{Result}
+use Rattle.tables.specs.declared.answers.Refusal.{Refusal}
 use Rattle.tables.specs.Tables.{task_of}
 use Rattle.zsrm.specs.declared.answers.Verdict.{Verdict}
-use Rattle.zsrm.specs.Verdict.{is_open, missed}
+use Rattle.zsrm.specs.Verdict.{is_open, missed, verdict_is}
 use Rattle.window.specs.declared.jobs.Gathered.{Gathered}
 use Rattle.window.specs.declared.answers.Windows.TheVariants.{Fails, Passes}
 use Rattle.window.specs.Code.{GatheredAs, Rising, RoomForJob, first_over, misses_between, windows_from, with_job}
@@ -37,7 +40,7 @@ gathered_none =
       opens = refl;
     }
 
-module _ (own : List ℕ) (vs : List Verdict) (x : Gathered) (w : GatheredAs own vs x) where
+module _ (own : List ℕ) (vs : List (Result Verdict Refusal)) (x : Gathered) (w : GatheredAs own vs x) where
   pub gathered_room : length own < 64 → RoomForJob x
   unfolding misses opens
   gathered_room room =
@@ -57,7 +60,7 @@ module _ (own : List ℕ) (vs : List Verdict) (x : Gathered) (w : GatheredAs own
       }
 
   -- one job more
-  module _ (room : length own < 64) (j : ℕ) (v : Verdict) where
+  module _ (room : length own < 64) (j : ℕ) (v : Result Verdict Refusal) where
     ends : length (own ++ (j ∷ [])) ≡ length own + 1
     ends = length-append own (j ∷ [])
 
@@ -72,19 +75,19 @@ module _ (own : List ℕ) (vs : List Verdict) (x : Gathered) (w : GatheredAs own
         go (inr m) = get_or-set_other x.numbers x.count i j 0 (λ e. omega (arith, w.count)) ∙ w.numbers i m ∙ sym (get_or-append own (j ∷ []) 0 i m)
 
     more_missed : (i : ℕ) → i ≤ length (own ++ (j ∷ []))
-        → get_or (set x.missed (x.count + 1) (get_or x.missed x.count 0 + cond (missed v) 1 0)) i 0 ≡ misses (take i (vs ++ (v ∷ [])))
+        → get_or (set x.missed (x.count + 1) (get_or x.missed x.count 0 + cond (verdict_is missed v) 1 0)) i 0 ≡ misses (take i (vs ++ (v ∷ [])))
     unfolding misses
     more_missed i l = go (last_or_below (suc (length own)) i (omega (arith, ends)))
       where
         sum : ℕ
-        sum = get_or x.missed x.count 0 + cond (missed v) 1 0
+        sum = get_or x.missed x.count 0 + cond (verdict_is missed v) 1 0
 
         go : (i ≡ suc (length own)) ⊎ (i < suc (length own)) → get_or (set x.missed (x.count + 1) sum) i 0 ≡ how_many missed (take i (vs ++ (v ∷ [])))
         go (inl e) =
             let here : i ≡ x.count + 1 = omega (arith, w.count) in
             ap (λ (n : ℕ). get_or (set x.missed (x.count + 1) sum) n 0) here
             ∙ get_or-set_same x.missed (x.count + 1) sum 0 (omega (arith, w.count, w.counted))
-            ∙ ap (λ (n : ℕ). n + cond (missed v) 1 0) (w.missed x.count (omega (arith, w.count)) ∙ ap (how_many missed) (take_all x.count vs (omega (arith, w.count, w.judged))))
+            ∙ ap (λ (n : ℕ). n + cond (verdict_is missed v) 1 0) (w.missed x.count (omega (arith, w.count)) ∙ ap (how_many missed) (take_all x.count vs (omega (arith, w.count, w.judged))))
             ∙ sym (many_one_more missed vs v)
             ∙ ap (how_many missed) (sym (take_all i (vs ++ (v ∷ [])) (omega (arith, length-append vs (v ∷ []), w.judged))))
         go (inr m) =
@@ -103,11 +106,16 @@ module _ (own : List ℕ) (vs : List Verdict) (x : Gathered) (w : GatheredAs own
           numbers = more_number;
           counted = length-set x.missed (x.count + 1) _ ∙ w.counted;
           missed = more_missed;
-          opens = ap (λ (n : ℕ). n + cond (is_open v) 1 0) w.opens ∙ sym (many_one_more is_open vs v);
+          opens = ap (λ (n : ℕ). n + cond (verdict_is is_open v) 1 0) w.opens ∙ sym (many_one_more is_open vs v);
         }
 
+-- a test as a number
+pub one_of : (b : Bool) {n : ℕ} → n ≡ bool_byte b → n ≡ cond b 1 0
+one_of true e = e
+one_of false e = e
+
 -- a loop's next turn
-module _ (jobs : List ℕ) (task : ℕ) (verdict : ℕ → Verdict) (j : ℕ) (x : Gathered)
+module _ (jobs : List ℕ) (task : ℕ) (verdict : ℕ → Result Verdict Refusal) (j : ℕ) (x : Gathered)
     (w : GatheredAs (jobs_below jobs task j) (map verdict (jobs_below jobs task j)) x) (room : length (jobs_below jobs task j) < 64) where
   pub gathered_next : (y : Gathered) → y ≡ cond (eqb (task_of jobs j) task) (with_job x j (verdict j)) x
       → GatheredAs (jobs_below jobs task (j + 1)) (map verdict (jobs_below jobs task (j + 1))) y
@@ -123,16 +131,6 @@ module _ (jobs : List ℕ) (task : ℕ) (verdict : ℕ → Verdict) (j : ℕ) (x
 
 -- what the code makes of the first window that it finds
 module _ (x : Gathered) (m k : ℕ) where
-  pub over_most : (i : ℕ) → i ≡ first_over x m k → i ≤ suc x.count - k
-  unfolding first_over
-  over_most i e = ⊎_elim (λ s. omega (arith, (least_found f n n s).0)) (λ s. omega (arith, least_none f n n s)) (either (some n f))
-    where
-      f : ℕ → Bool
-      f i = ltb m (misses_between x k i)
-
-      n : ℕ
-      n = suc x.count - k
-
   pub over_fails : (i c : ℕ) → i ≡ first_over x m k → c ≡ misses_between x k i → i + k ≤ x.count → Fails (get_or x.numbers i 0) c x.opens ≡ windows_from x m k
   unfolding windows_from
   over_fails i c e q l = rw (← e, le-leb (i + k) x.count l, q)
@@ -142,7 +140,7 @@ module _ (x : Gathered) (m k : ℕ) where
   over_passes i e l = rw (← e, lt-leb (i + k) x.count l)
 
 -- what the windows come to
-module _ (own : List ℕ) (vs : List Verdict) (x : Gathered) (w : GatheredAs own vs x) (m k : ℕ) (least_size : 0 < k) where
+module _ (own : List ℕ) (vs : List (Result Verdict Refusal)) (x : Gathered) (w : GatheredAs own vs x) (m k : ℕ) (least_size : 0 < k) where
   pub between : (i : ℕ) → i + k ≤ length vs → misses_between x k i ≡ misses (window vs k i)
   unfolding misses_between
   between i l =

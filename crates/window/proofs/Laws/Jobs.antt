@@ -14,8 +14,11 @@ use borrow.Author.Tests.{eq-eqb, eqb-true}
 use Rattle.bits.specs.Below.{count}
 use Rattle.bits.proofs.Laws.Below.{last_or_below}
 use Rattle.bits.proofs.Laws.Bools.{clash}
+use Rattle.std.specs.Prelude.{Result}
+use Rattle.tables.specs.declared.answers.Refusal.{Refusal}
 use Rattle.tables.specs.Tables.{job_count, task_of}
 use Rattle.zsrm.specs.declared.answers.Verdict.{Verdict}
+use Rattle.zsrm.specs.Verdict.{verdict_is}
 use Rattle.window.specs.Windows.{activations, how_many, jobs_below}
 use Rattle.window.proofs.Laws.Counts.{many_append}
 
@@ -61,7 +64,7 @@ module _ (jobs : List ℕ) (task : ℕ) where
       go false = refl
 
   -- how many of their verdicts pass a test, counted over the list
-  below_many : (test : Verdict → Bool) (v : ℕ → Verdict) (n : ℕ) → how_many test (map v (jobs_below jobs task n)) ≡ count n (λ j. eqb (task_of jobs j) task && test (v j))
+  below_many : (test : Verdict → Bool) (v : ℕ → Result Verdict Refusal) (n : ℕ) → how_many test (map v (jobs_below jobs task n)) ≡ count n (λ j. eqb (task_of jobs j) task && verdict_is test (v j))
   unfolding jobs_below how_many count
   below_many test v zero = refl
   below_many test v (suc n) =
@@ -69,7 +72,7 @@ module _ (jobs : List ℕ) (task : ℕ) where
       ∙ many_append test (map v (jobs_below jobs task n)) (map v (cond (eqb (task_of jobs n) task) (n ∷ []) []))
       ∙ omega (arith, below_many test v n, go (eqb (task_of jobs n) task))
     where
-      go : (b : Bool) → how_many test (map v (cond b (n ∷ []) [])) ≡ cond (b && test (v n)) 1 0
+      go : (b : Bool) → how_many test (map v (cond b (n ∷ []) [])) ≡ cond (b && verdict_is test (v n)) 1 0
       go true = omega arith
       go false = refl
 
@@ -130,7 +133,7 @@ module _ (jobs : List ℕ) (task : ℕ) where
   unfolding activations
   own_all = below_all (job_count jobs)
 
-  pub own_many : (test : Verdict → Bool) (v : ℕ → Verdict) → how_many test (map v (activations jobs task)) ≡ count (job_count jobs) (λ j. eqb (task_of jobs j) task && test (v j))
+  pub own_many : (test : Verdict → Bool) (v : ℕ → Result Verdict Refusal) → how_many test (map v (activations jobs task)) ≡ count (job_count jobs) (λ j. eqb (task_of jobs j) task && verdict_is test (v j))
   unfolding activations
   own_many test v = below_many test v (job_count jobs)
 

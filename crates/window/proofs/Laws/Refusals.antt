@@ -10,12 +10,12 @@ use lib.Dec.{eqb, ltb}
 use borrow.Author.Tests.{eqb-false, le-ltb, lt-ltb, ltb-true, ne_eqb, not-false}
 use Rattle.bits.proofs.Laws.Bools.{apart}
 use Rattle.bits.proofs.Readings.{lt_fails, not_reads}
-use Rattle.tables.specs.declared.answers.Outcome.{Outcome}
-use Rattle.tables.specs.declared.answers.Outcome.TheVariants.{Done, Refused}
+use Rattle.std.specs.Prelude.{Err}
+use Rattle.tables.specs.Outcomes.{Outcome, Done, Refused}
 use Rattle.tables.specs.Refusals.{before, check13, check_lists, refuse}
 use Rattle.tables.specs.Tables.{job_count, task_count}
 use Rattle.tables.proofs.Laws.Accepted.{lists_few}
-use Rattle.tables.proofs.Laws.Refusals.{fine, numbered_refuse, refuse_fine, before_assoc, lists_numbered, only_exactly, only_refuse, first_of, all_done, own_refused, Other, before_stops}
+use Rattle.tables.proofs.Laws.Refusals.{fine, numbered_refuse, refuse_fine, before_assoc, lists_numbered, only_exactly, only_refuse, first_of, all_done, own_refused, Other, before_stops, refused_same}
 use Rattle.tables.proofs.Readings.{refuse_done, refuse_reads}
 use Rattle.zsrm.specs.declared.answers.Verdicts.{Verdicts}
 use Rattle.zsrm.specs.declared.record.Record.{Record}
@@ -37,8 +37,8 @@ module _ (g : Given) (r : Record) (task m k : ℕ) where
     where
       go : (a : Outcome) (t : Bool) → before a (refuse t 13 0) ≡ Refused number place
           → before a (before (check19 m k) (check20 g.lists.tasks task)) ≡ Refused number place
-      go (Refused n p) t e = e
-      go Done true e = absurd (other (cc))
+      go (Err w) t e = e
+      go Done true e = absurd (other (sym (refused_same 13 0 number place e).0))
       go Done false e = apart (cc)
 
 -- the pair is accepted

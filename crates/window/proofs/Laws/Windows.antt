@@ -10,27 +10,29 @@ use lib.ListN.{get_or, length}
 use borrow.Author.Tests.{le-ltb, lt-ltb, ltb-false, ltb-true}
 use Rattle.bits.proofs.Laws.Below.{least_found, least_none, none_passes, some_true}
 use Rattle.bits.proofs.Readings.{least_reads}
+use Rattle.std.specs.Prelude.{Result}
+use Rattle.tables.specs.declared.answers.Refusal.{Refusal}
 use Rattle.zsrm.specs.declared.answers.Verdict.{Verdict}
 use Rattle.window.specs.declared.answers.Windows.{Windows}
-use Rattle.window.specs.declared.answers.Windows.TheVariants.{Fails, Passes, Refused}
+use Rattle.window.specs.declared.answers.Windows.TheVariants.{Fails, Passes}
 use Rattle.window.specs.Windows.{fails, first_failing, windows_of, misses, opens, window, window_count}
 use Rattle.window.proofs.Laws.Counts.{window_within}
 use Rattle.bits.proofs.Laws.Bools as bools
 use Rattle.bits.proofs.Laws.Bools.{apart}
 
 -- every K consecutive of the verdicts contain at most m misses
-abbrev pub Holds : List Verdict → ℕ → ℕ → Type 0
+abbrev pub Holds : List (Result Verdict Refusal) → ℕ → ℕ → Type 0
 Holds vs m k = (i : ℕ) → i + k ≤ length vs → misses (window vs k i) ≤ m
 
 -- window i is the first that fails: it lies within the verdicts and contains more than m misses, and no earlier window does
-pub record FirstOver (vs : List Verdict) (m k i : ℕ) : Type 0 where
+pub record FirstOver (vs : List (Result Verdict Refusal)) (m k i : ℕ) : Type 0 where
   pub there : i + k ≤ length vs
   pub over : m < misses (window vs k i)
   pub earlier : (e : ℕ) → e < i → misses (window vs k e) ≤ m
 
 -- a smaller K does not turn a pass into a failure, where there are at least the larger K verdicts: each smaller window lies within a larger
 -- one, the last at the latest
-pub holds_shorter : (vs : List Verdict) (m k n : ℕ) → n ≤ k → k ≤ length vs → Holds vs m k → Holds vs m n
+pub holds_shorter : (vs : List (Result Verdict Refusal)) (m k n : ℕ) → n ≤ k → k ≤ length vs → Holds vs m k → Holds vs m n
 holds_shorter vs m k n l enough h i b = go (ltb (length vs) (i + k)) refl
   where
     go : (late : Bool) → ltb (length vs) (i + k) ≡ late → misses (window vs n i) ≤ m
@@ -41,11 +43,11 @@ holds_shorter vs m k n l enough h i b = go (ltb (length vs) (i + k)) refl
         omega (arith, h last (omega arith), window_within vs n i k last (omega arith) (omega arith))
 
 -- the windows are those that begin with k verdicts left
-pub window_counted : (vs : List Verdict) (k i : ℕ) → i < window_count vs k ↔ i + k ≤ length vs
+pub window_counted : (vs : List (Result Verdict Refusal)) (k i : ℕ) → i < window_count vs k ↔ i + k ≤ length vs
 unfolding window_count
 window_counted vs k i = (λ l. omega arith, λ l. omega arith)
 
-module _ (vs : List Verdict) (m k : ℕ) where
+module _ (vs : List (Result Verdict Refusal)) (m k : ℕ) where
   pub over_exactly : (i : ℕ) → fails vs m k i ≡ true ↔ m < misses (window vs k i)
   unfolding fails
   over_exactly i = (ltb-true m (misses (window vs k i)), lt-ltb m (misses (window vs k i)))
@@ -82,7 +84,7 @@ module _ (vs : List Verdict) (m k : ℕ) where
       (least_reads (fails vs m k) (window_count vs k) (window_count vs k) i ((window_counted vs k i).1 w.there) (omega arith)).1
       ((over_exactly i).1 w.over, λ e b. (within_reads e).1 (w.earlier e b))
 
-module _ (own : List ℕ) (vs : List Verdict) (m k : ℕ) where
+module _ (own : List ℕ) (vs : List (Result Verdict Refusal)) (m k : ℕ) where
   -- what a failing window is told as
   abbrev pub fails_at : ℕ → Windows
   fails_at i = Fails (get_or own i 0) (misses (window vs k i)) (opens vs)
@@ -123,11 +125,3 @@ module _ (own : List ℕ) (vs : List Verdict) (m k : ℕ) where
       go : (x : Windows) → WindowCases x → x ≡ Fails j c n → (i : ℕ) × FirstOver vs m k i × (j ≡ get_or own i 0) × (c ≡ misses (window vs k i)) × (n ≡ opens vs)
       go _ (each_passes h) e = apart (cc)
       go _ (one_fails_law i w) e = (i, w, cc, cc, cc)
-
-  -- never a refusal
-  pub never_refused : (number place : ℕ) → windows_of own vs m k ≡ Refused number place → ⊥
-  never_refused number place = go (windows_of own vs m k) window_cases
-    where
-      go : (x : Windows) → WindowCases x → x ≡ Refused number place → ⊥
-      go _ (each_passes h) e = apart (cc)
-      go _ (one_fails_law i w) e = apart (cc)

@@ -10,24 +10,24 @@ gather-requires c =
     let a = c.args in
     let g = given a.mode a.tasks.now a.jobs.now in
     accepted_few g a.rec a.task a.m a.k
-    (made_accepted g a.rec a.task a.m a.k _ c.verdicts-all.ensures _ c.check_judge-checked.ensures c.in-Done.is)
+    (made_accepted g a.rec a.task a.m a.k _ c.verdicts-all.ensures _ c.check_judge.ensures c.in_ok-check_judge.was)
 
 pub windows_from-requires : goal.windows_from-requires
 windows_from-requires c =
     let a = c.args in
     let g = given a.mode a.tasks.now a.jobs.now in
-    let w = made_accepted g a.rec a.task a.m a.k _ c.verdicts-all.ensures _ c.check_judge-checked.ensures c.in-Done.is in
+    let w = made_accepted g a.rec a.task a.m a.k _ c.verdicts-all.ensures _ c.check_judge.ensures c.in_ok-check_judge.was in
     (gathered_rising _ _ _ c.gather.ensures, w.pair.least, w.pair.most)
 
-pub returns-in-Done : goal.returns-in-Done
-returns-in-Done c =
+pub returns : goal.returns
+returns c =
     let a = c.args in
     let g = given a.mode a.tasks.now a.jobs.now in
-    made_answer g a.rec a.task a.m a.k _ c.verdicts-all.ensures _ c.check_judge-checked.ensures c.in-Done.is _ c.gather.ensures _
+    made_answer g a.rec a.task a.m a.k _ c.verdicts-all.ensures _ c.check_judge.ensures c.in_ok-check_judge.was _ c.gather.ensures _
     c.windows_from.ensures
 
-pub returns-in-Refused : goal.returns-in-Refused
-returns-in-Refused c =
+pub returns-in_err-check_judge : goal.returns-in_err-check_judge
+returns-in_err-check_judge c =
     let a = c.args in
     let g = given a.mode a.tasks.now a.jobs.now in
-    made_refused g a.rec a.task a.m a.k _ c.verdicts-all.ensures _ c.check_judge-checked.ensures _ _ c.in-Refused.is
+    made_refused g a.rec a.task a.m a.k _ c.verdicts-all.ensures _ c.check_judge.ensures c.in_err-check_judge.was c.from_residual.ensures.1

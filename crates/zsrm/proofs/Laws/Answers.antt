@@ -8,8 +8,9 @@ use native.Mathlib.Omega.{arith}
 use lib.Dec.{eqb}
 use lib.ListN.{length}
 use borrow.Author.Tests.{eq-eqb, eqb-false, eqb-true, not-false}
-use Rattle.tables.specs.declared.answers.Outcome.{Outcome}
-use Rattle.tables.specs.declared.answers.Outcome.TheVariants.{Done, Refused}
+use Rattle.std.specs.Prelude.{Ok, Err}
+use Rattle.zsrm.specs.declared.answers.Claim.{Claim}
+use Rattle.tables.specs.Outcomes.{Outcome, Done, Refused}
 use Rattle.zsrm.specs.declared.record.Record.{Record}
 use Rattle.zsrm.specs.declared.tie.Tie.{Tie}
 use Rattle.zsrm.specs.Answers.{check_step, claim_answer, ran, run_answer, run_schedule}
@@ -53,11 +54,11 @@ pub record LegalClaim (g : Given) (horizon : ℕ) (schedule : List ℕ) : Type 0
 pub is_legal_law : (g : Given) (horizon : ℕ) (schedule : List ℕ) → claim_said (claim_answer g horizon schedule) ≡ say.legal → LegalClaim g horizon schedule
 unfolding claim_said claim_answer unless
 is_legal_law g horizon schedule e =
-    go (check_schedule g.lists horizon (length schedule)) refl (claim_said_law (claim_answer g horizon schedule) claims.Legal e)
+    go (check_schedule g.lists horizon (length schedule)) refl (claim_said_law (claim_answer g horizon schedule) (Ok claims.Legal) e)
   where
-    go : (o : Outcome) → check_schedule g.lists horizon (length schedule) ≡ o → unless o claims.Refused (claim g schedule) ≡ claims.Legal → LegalClaim g horizon schedule
-    go Done q c = record { checked = q; input = accepted g.lists horizon (length schedule) q; legal = (whole_legal g schedule).0 c }
-    go (Refused n p) q c = apart (cc)
+    go : (o : Outcome) → check_schedule g.lists horizon (length schedule) ≡ o → unless o Refused (Ok (claim g schedule)) ≡ Ok claims.Legal → LegalClaim g horizon schedule
+    go Done q c = record { checked = q; input = accepted g.lists horizon (length schedule) q; legal = (whole_legal g schedule).0 (cc) }
+    go (Err w) q c = apart (cc)
 
 pub run_outcome : (g : Given) (tie : Tie) (horizon : ℕ) (lent : List ℕ) → (run_answer g tie horizon lent).outcome ≡ check_schedule g.lists horizon (length lent)
 unfolding run_answer ran
@@ -71,15 +72,15 @@ run_given_law g tie horizon lent ok = (unless_done _ _ (check_schedule g.lists h
 
 -- what a run that is not refused writes is a legal claim
 pub run_claim : (g : Given) (tie : Tie) (horizon : ℕ) (lent : List ℕ) → check_schedule g.lists horizon (length lent) ≡ Done
-    → claim_answer g horizon (run_schedule g tie horizon lent) ≡ claims.Legal
+    → claim_answer g horizon (run_schedule g tie horizon lent) ≡ Ok claims.Legal
 unfolding claim_answer
 run_claim g tie horizon lent ok =
     let a = accepted g.lists horizon (length lent) ok in
     let es = run_entries g tie horizon in
     let same : length lent ≡ length es = a.whole ∙ sym (length_run g tie horizon) in
     rw (run_given_law g tie horizon lent ok).1
-    (unless_done claims.Refused (claim g es) (check_schedule g.lists horizon (length es)) (rw same at ok)
-    ∙ (whole_legal g es).1 (our_run_legal g a.lists tie horizon a.bounded))
+    (unless_done Refused (Ok (claim g es)) (check_schedule g.lists horizon (length es)) (rw same at ok)
+    ∙ ap (λ (c : Claim). Ok c) ((whole_legal g es).1 (our_run_legal g a.lists tie horizon a.bounded)))
 
 -- what a step that is not refused says of its record
 pub record Steps (g : Given) (r : Record) : Type 0 where

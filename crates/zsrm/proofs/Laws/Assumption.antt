@@ -1,18 +1,17 @@
 -- The assumption of a witness: how the code comes to the first job that breaks it, and that nothing else ends a job. A job that is over in a
 -- tick has less than c done before it and more than C after it, so its c exceeds its C: in a legal schedule whatever ended a job is strictly
 -- more critical and breaks the assumption.
-use Prim.Native.Nat.{◌-◌, ◌<◌, suc, zero, ℕ, ◌≤◌}
-use mathlib.Core.Bool.{Bool, cond, false, true}
+use Prim.Native.Nat.{◌<◌, suc, ℕ, ◌≤◌}
+use mathlib.Core.Bool.{Bool, false, true}
 use mathlib.Core.List.{List}
 use mathlib.Core.Logic.{inl, inr, ◌⊎◌}
-use mathlib.Core.Path.{ap, refl, subst, sym, ◌∙◌, ◌≡◌}
-use native.Mathlib.Nat.{not-suc-le-zero}
+use mathlib.Core.Path.{refl, subst, sym, ◌∙◌, ◌≡◌}
 use native.Mathlib.Omega.{arith}
 use lib.Dec.{ltb}
 use lib.ListN.{length}
 use borrow.Author.Tests.{lt-ltb, le-ltb}
 use Rattle.bits.specs.Below.{least, some}
-use Rattle.bits.proofs.Laws.Below.{least_found, least_none}
+use Rattle.bits.proofs.Laws.Below.{least_found, least_is, least_none}
 use Rattle.bits.proofs.Laws.Bools.{either, apart}
 use Rattle.zsrm.specs.declared.record.Record.{Record}
 use Rattle.zsrm.specs.declared.record.Standing.{Standing}
@@ -29,32 +28,15 @@ use Rattle.zsrm.proofs.Laws.Replay.{AllLegal, kept_at, legal_may, replayed_is}
 use Rattle.zsrm.proofs.Laws.Tick.{done_most, goes_on_cases, past_exactly}
 use Rattle.zsrm.proofs.Readings.{Breaks, FirstOutside, SomeJob, alive_reads, ends_reads, outside_reads, over_reads, within_reads}
 
--- a downward loop at n keeps n - 1 where that passes, and goes past it where it fails
-least_next : (f : ℕ → Bool) (n d : ℕ) (b : Bool) → 0 < n → f (n - 1) ≡ b → least n f d ≡ least (n - 1) f (cond b (n - 1) d)
-unfolding least
-least_next f zero d b l q = absurd (not-suc-le-zero l)
-least_next f (suc n) d b l q = let e : suc n - 1 ≡ n = omega arith in rw (e, sym (ap f (sym e) ∙ q))
-
 module _ (l : Lists) (j : ℕ) where
-  -- what such a loop has found from the last job down to i
-  abbrev pub Found : ℕ → ℕ → Type 0
-  Found first i = outsider l j ≡ least i (breaks l j) first
-
-  pub found_none : (n : ℕ) → n ≡ job_count l.jobs → Found n n
+  -- a job that breaks it, where none below does, is the first; and where none does it is the number of jobs
+  pub first_found : (i : ℕ) (b : Bool) → i < job_count l.jobs → some i (breaks l j) ≡ false → b ≡ breaks l j i → b ≡ true → i ≡ outsider l j
   unfolding outsider
-  found_none n e = rw e refl
+  first_found i b few none q t = sym (least_is (breaks l j) (job_count l.jobs) (job_count l.jobs) i few none (sym q ∙ t))
 
-  module _ (first i : ℕ) (b : Bool) (more : 0 < i) (w : Found first i) (q : b ≡ breaks l j (i - 1)) where
-    pub found_here : b ≡ true → Found (i - 1) (i - 1)
-    found_here t = w ∙ least_next (breaks l j) i first true more (sym q ∙ t)
-
-    pub found_past : b ≡ false → Found first (i - 1)
-    found_past t = w ∙ least_next (breaks l j) i first false more (sym q ∙ t)
-
-  pub found_all : (first i : ℕ) → i ≤ 0 → Found first i → first ≡ outsider l j
-  unfolding least
-  found_all first zero none w = sym w
-  found_all first (suc i) none w = absurd (not-suc-le-zero none)
+  pub none_found : some (job_count l.jobs) (breaks l j) ≡ false → job_count l.jobs ≡ outsider l j
+  unfolding outsider
+  none_found none = sym (least_none (breaks l j) (job_count l.jobs) (job_count l.jobs) none)
 
   -- a job is named exactly where there is one to name
   pub named_outside : ltb (outsider l j) (job_count l.jobs) ≡ is_outside l j

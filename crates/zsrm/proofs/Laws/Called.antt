@@ -10,8 +10,9 @@ use lib.Dec.{eqb}
 use lib.ListN.{length}
 use borrow.Author.Tests.{eq-eqb, eqb-true, le-ltb, ne_eqb}
 use Rattle.tables.specs.Bytes.{bytes_of, check_lists_in, numbers_in, uneven}
-use Rattle.tables.specs.declared.answers.Outcome.{Outcome}
-use Rattle.tables.specs.declared.answers.Outcome.TheVariants.{Done, Refused}
+use Rattle.std.specs.Prelude.{Result, Ok, Err}
+use Rattle.tables.specs.declared.answers.Refusal.{Refusal}
+use Rattle.tables.specs.Outcomes.{Outcome, Done, Refused}
 use Rattle.tables.specs.Refusals.{before, check10, check9, check_lists, check_schedule, refuse, unless}
 use Rattle.tables.specs.Tables.{lists}
 use Rattle.tables.proofs.Laws.Bytes.{length_numbers}
@@ -23,14 +24,13 @@ use Rattle.zsrm.specs.declared.answers.Claim.{Claim}
 use Rattle.zsrm.specs.declared.tie.Tie.TheVariants.{Stay}
 use Rattle.zsrm.specs.declared.mode.Mode.TheVariants.{S, SE}
 use Rattle.zsrm.specs.Answers.{claim_answer}
-use Rattle.zsrm.specs.Bytes.{check1, check_bytes, claim_result, given_bytes, mode_of, packed_claim, packed_outcome, run_bytes, run_result}
+use Rattle.zsrm.specs.Bytes.{packed_answer, check1, check_bytes, claim_result, given_bytes, mode_of, packed_claim, packed_outcome, run_bytes, run_result}
 use Rattle.zsrm.specs.Code.Calls.{Call}
 use Rattle.zsrm.specs.Code.Masks.{MasksTo}
 use Rattle.zsrm.specs.Code.Reading.{Jobbed, Tasked}
 use Rattle.zsrm.specs.Given.{given, is_se}
 use Rattle.zsrm.specs.Legal.{claim}
 use Rattle.zsrm.specs.Run.{run_entries}
-use Rattle.zsrm.proofs.Readings.{claim_not_refused}
 use Rattle.zsrm.proofs.Laws.Calls.{call_made}
 use Rattle.zsrm.proofs.Laws.Reading.{jobs_number, tasks_number}
 use Rattle.zsrm.proofs.Laws.Said.{claim_said_law}
@@ -99,16 +99,16 @@ module _ (mode : ℕ) (tasks jobs : List ℕ) (horizon count : ℕ) (found : Out
       (tasks_number tasks) m (jobs_number jobs)
       mode_read
 
--- packed answers that are no refusals are told apart
-unpacked : (c d : Claim) → ((number place : ℕ) → c ≡ claims.Refused number place → ⊥) → ((number place : ℕ) → d ≡ claims.Refused number place → ⊥) → packed_claim c ≡ packed_claim d → c ≡ d
+-- packed claims are told apart
+unpacked : (c d : Claim) → packed_claim c ≡ packed_claim d → c ≡ d
 unfolding packed_claim
-unpacked (claims.Refused n p) d a b e = absurd (a n p refl)
-unpacked claims.Legal (claims.Refused n p) a b e = absurd (b n p refl)
-unpacked claims.Legal claims.Legal a b e = refl
-unpacked claims.Legal (claims.NotLegal t) a b e = absurd (omega arith)
-unpacked (claims.NotLegal t) (claims.Refused n p) a b e = absurd (b n p refl)
-unpacked (claims.NotLegal t) claims.Legal a b e = absurd (omega arith)
-unpacked (claims.NotLegal t) (claims.NotLegal u) a b e = ap claims.NotLegal (omega arith)
+unpacked claims.Legal claims.Legal e = refl
+unpacked claims.Legal (claims.NotLegal t) e = absurd (omega arith)
+unpacked (claims.NotLegal t) claims.Legal e = absurd (omega arith)
+unpacked (claims.NotLegal t) (claims.NotLegal u) e = ap claims.NotLegal (omega arith)
+
+same_packed : (c d : Claim) → ◌≡◌ {A = Result Claim Refusal} (Ok c) (Ok d) → packed_claim c ≡ packed_claim d
+same_packed c d e = ap packed_claim (cc)
 
 -- the calls' results, where the checks pass and where they refuse
 module _ (mode : ℕ) (tasks jobs : List ℕ) (horizon : ℕ) (schedule : List ℕ) where
@@ -122,8 +122,8 @@ module _ (mode : ℕ) (tasks jobs : List ℕ) (horizon : ℕ) (schedule : List �
     )
 
     pub c_claims : (x : ℕ) → x ≡ packed_claim (claim (given_bytes mode tasks jobs) (numbers_in 2 schedule)) → x ≡ claim_result mode tasks jobs horizon schedule
-    unfolding claim_result
-    c_claims x q = q ∙ ap packed_claim (sym (unless_done _ _ _ w.checked))
+    unfolding claim_result packed_answer
+    c_claims x q = q ∙ ap packed_answer (sym (unless_done _ _ _ w.checked))
 
   pub record RefusedCall (number place : ℕ) : Type 0 where
     pub small : (1 ≤ number) × (number ≤ 13) × (place ≤ 64)
@@ -132,7 +132,7 @@ module _ (mode : ℕ) (tasks jobs : List ℕ) (horizon : ℕ) (schedule : List �
     pub claimed : number + 256 * place ≡ claim_result mode tasks jobs horizon schedule
 
   pub stopped : (number place : ℕ) → check_bytes mode tasks jobs horizon (length schedule) ≡ Refused number place → RefusedCall number place
-  unfolding run_result run_bytes claim_result packed_outcome packed_claim unless
+  unfolding run_result run_bytes claim_result packed_outcome packed_answer unless
   stopped number place found =
       record { small = subst Small found (refusals_small mode tasks jobs horizon (length schedule)); run = rw found; kept = rw found; claimed = rw found }
 
@@ -142,7 +142,7 @@ module _ (mode : ℕ) (tasks jobs : List ℕ) (horizon : ℕ) (schedule : List �
       go : (o : Outcome) → check_bytes mode tasks jobs horizon (length schedule) ≡ o
           → Passed mode tasks jobs horizon (length schedule) ⊎ ((number : ℕ) × (place : ℕ) × RefusedCall number place)
       go Done e = inl (call_passed mode tasks jobs horizon (length schedule) e)
-      go (Refused number place) e = inr (number, place, stopped number place e)
+      go (Err w) e = inr (w.number, w.place, stopped w.number w.place e)
 
   -- a run's result of 0 is "done" of the lists that the bytes spell, and the bytes are then the entries of our run
   pub run_passed : run_result mode tasks jobs horizon schedule ≡ 0 → Passed mode tasks jobs horizon (length schedule)
@@ -151,20 +151,20 @@ module _ (mode : ℕ) (tasks jobs : List ℕ) (horizon : ℕ) (schedule : List �
   -- where nothing is refused, the result is the packed answer to the claim of the lists that the bytes spell
   claim_packed : Passed mode tasks jobs horizon (length schedule)
       → (claim_result mode tasks jobs horizon schedule ≡ packed_claim (claim (given_bytes mode tasks jobs) (numbers_in 2 schedule)))
-      × (claim_answer (given_bytes mode tasks jobs) horizon (numbers_in 2 schedule) ≡ claim (given_bytes mode tasks jobs) (numbers_in 2 schedule))
-  unfolding claim_result claim_answer
-  claim_packed w = (ap packed_claim (unless_done _ _ _ w.checked), unless_done _ _ _ (rw (length_numbers 2) w.schedule))
+      × (claim_answer (given_bytes mode tasks jobs) horizon (numbers_in 2 schedule) ≡ Ok (claim (given_bytes mode tasks jobs) (numbers_in 2 schedule)))
+  unfolding claim_result claim_answer packed_answer
+  claim_packed w = (ap packed_answer (unless_done _ _ _ w.checked), unless_done _ _ _ (rw (length_numbers 2) w.schedule))
 
-  pub c_claim_exactly : (c : Claim) → ((number place : ℕ) → c ≡ claims.Refused number place → ⊥)
+  pub c_claim_exactly : (c : Claim)
       → ((number place : ℕ) → (1 ≤ number) × (number ≤ 13) × (place ≤ 64) → number + 256 * place ≡ packed_claim c → ⊥)
       → claim_result mode tasks jobs horizon schedule ≡ packed_claim c
-      ↔ (outcome_said (check_bytes mode tasks jobs horizon (length schedule)) ≡ done) × (claim_said (claim_answer (given_bytes mode tasks jobs) horizon (numbers_in 2 schedule)) ≡ claim_said c)
+      ↔ (outcome_said (check_bytes mode tasks jobs horizon (length schedule)) ≡ done) × (claim_said (claim_answer (given_bytes mode tasks jobs) horizon (numbers_in 2 schedule)) ≡ claim_said (Ok c))
   unfolding outcome_said run_result packed_outcome
-  c_claim_exactly c plain far = (
+  c_claim_exactly c far = (
     λ e. ⊎_elim (λ w. let p = claim_packed w in
-        (ap outcome_said w.checked, ap claim_said (p.1 ∙ unpacked _ c (claim_not_refused _ (numbers_in 2 schedule)) plain (sym p.0 ∙ e))))
+        (ap outcome_said w.checked, ap claim_said (p.1 ∙ ap (λ (d : Claim). Ok d) (unpacked _ c (sym p.0 ∙ e)))))
         (λ s. absurd (far s.0 s.1 s.2.small (s.2.claimed ∙ e))) decided,
-    λ w. ⊎_elim (λ x. let p = claim_packed x in p.0 ∙ ap packed_claim (sym p.1 ∙ claim_said_law _ c w.1))
+    λ w. ⊎_elim (λ x. let p = claim_packed x in p.0 ∙ same_packed _ c (sym p.1 ∙ claim_said_law _ (Ok c) w.1))
         (λ s. clashes s.0 s.1 s.2 w.0) decided,
   )
     where

@@ -12,11 +12,12 @@ use native.Mathlib.Omega.{arith}
 use lib.Dec.{eqb, ltb}
 use lib.ListN.{get_or, length, length-set, set}
 use lib.Seq.{get_or-set_other, get_or-set_same}
-use borrow.Author.Tests.{eq-eqb, le-ltb, lt-ltb, ltb-false, ltb-true, ne_eqb}
+use borrow.Author.Tests.{eq-eqb, le-ltb, lt-ltb, ltb-false, ne_eqb}
 use Rattle.bits.specs.Word.{without, with_bit}
 use Rattle.bits.proofs.Laws.Bools.{by_cond}
-use Rattle.tables.specs.declared.answers.Outcome.{Outcome}
+use Rattle.tables.specs.Outcomes.{Done}
 use Rattle.tables.specs.Refusals.{check_lists}
+use Rattle.std.proofs.lemmas.Bool.{cases_lt}
 use Rattle.tables.specs.Tables.{arrival, execution, idle, job_count, job_nominal, task_count, zero_slack_instant}
 use Rattle.tables.proofs.Laws.Accepted.{few_tasks, lists_few, lists_tasks}
 use Rattle.zsrm.specs.declared.compact.Going.{Going}
@@ -39,7 +40,7 @@ use Rattle.zsrm.proofs.Laws.Tick.{eligible_alive, runs_eligible, runs_or_idle}
 use Rattle.zsrm.proofs.Laws.View.{none_ended}
 
 -- what is read of lists that pass, and the masks that are made of it
-pub call_made : (x : Given) (of words out masks : List ℕ) (m n : ℕ) (se : Bool) → check_lists x.lists ≡ Outcome.Done → Tasked x.lists.tasks of → Jobbed x.lists out words
+pub call_made : (x : Given) (of words out masks : List ℕ) (m n : ℕ) (se : Bool) → check_lists x.lists ≡ Done → Tasked x.lists.tasks of → Jobbed x.lists out words
     → m ≡ task_count x.lists.tasks → MasksTo of words m m m masks → n ≡ job_count x.lists.jobs → se ≡ is_se x.mode → Call x out masks n se
 unfolding criticality_at priority_at arrival_in execution_in slack_in nominal_in
 call_made x of words out masks m n se ok t j q w count mode =
@@ -57,8 +58,8 @@ module _ (x : Given) (g masks : List ℕ) (n : ℕ) (se : Bool) (z : Call x g ma
   few : job_count x.lists.jobs ≤ 64
   few = lists_few x.lists z.ok
 
-  pub call_fits : (n ≤ 64) × (length g ≡ 320) × (length masks ≡ 32)
-  call_fits = (omega (arith, few, z.count), z.tasks.size, z.masked.size)
+  pub call_fits : n ≤ 64
+  call_fits = omega (arith, few, z.count)
 
   module _ (all : Bool) (r : Record) (done : List ℕ) (s : Going) (sound : consistent x r ≡ true)
       (cur : Current x all r s.alive s.early s.came s.soon done) where
@@ -92,9 +93,7 @@ module _ (x : Given) (g masks : List ℕ) (n : ℕ) (se : Bool) (z : Call x g ma
 
         most_is : ((most ≡ s.soon - r.tick) × (s.soon < ticks)) ⊎ ((most ≡ ticks - r.tick) × (ticks ≤ s.soon))
         unfolding most_of
-        most_is =
-            by_cond (λ m. ((m - r.tick ≡ s.soon - r.tick) × (s.soon < ticks)) ⊎ ((m - r.tick ≡ ticks - r.tick) × (ticks ≤ s.soon))) (ltb s.soon ticks) s.soon ticks
-            (λ h. inl (refl, ltb-true s.soon ticks h)) (λ h. inr (refl, ltb-false s.soon ticks h))
+        most_is = ⊎_elim (λ l. inl (omega arith, l)) (λ l. inr (omega arith, l)) (cases_lt s.soon ticks)
 
         most_one : 1 ≤ most
         most_one = ⊎_elim (λ h. omega (arith, h.0, cur.ahead)) (λ h. omega (arith, h.0)) most_is
@@ -199,13 +198,6 @@ pub eligible_made : (masks g : List ℕ) (s : Going) (past held r : ℕ) → pas
 unfolding eligible_of past_of
 eligible_made masks g s past held r p q h = h ∙ ap (without s.alive) (q ∙ ap (held_by masks g) p)
 
-pub reach_ahead : (soon ticks t end : ℕ) → end ≡ cond (ltb soon ticks) soon ticks → t < ticks → t < soon → t < end
-reach_ahead soon ticks t end q a b = rw q (by_cond (λ m. t < m) (ltb soon ticks) soon ticks (λ _. b) (λ _. a))
-
-pub reach_made : (g : List ℕ) (n : ℕ) (s : Going) (t ticks end r : ℕ) → end ≡ cond (ltb s.soon ticks) s.soon ticks → r ≡ arrival_gap g n s.came t (end - t) → r ≡ reach_of g n s t ticks
-unfolding reach_of most_of
-reach_made g n s t ticks end r q h = h ∙ ap (λ (m : ℕ). arrival_gap g n s.came t (m - t)) q
-
 -- the ticks done stay as many
 pub done_length : (done : List ℕ) (e n k : ℕ) → length (done_by done e n k) ≡ length done
 unfolding done_by
@@ -215,8 +207,7 @@ done_length done e n k = by_cond (λ (d : List ℕ). length d ≡ length done) (
 pub reach_within : (g : List ℕ) (n : ℕ) (s : Going) (t ticks r : ℕ) → r ≡ reach_of g n s t ticks → r ≤ ticks
 unfolding reach_of most_of
 reach_within g n s t ticks r q =
-    le_trans (arrival_most g n s.came t _ r q)
-    (by_cond (λ m. m - t ≤ ticks) (ltb s.soon ticks) s.soon ticks (λ h. omega (arith, ltb-true s.soon ticks h)) (λ _. omega arith))
+    le_trans (arrival_most g n s.came t _ r q) (omega arith)
 
 module _ (g : List ℕ) (se : Bool) (done : List ℕ) (e : ℕ) (masks : List ℕ) (s : Going) (ticks c r : ℕ) (qc : c ≡ execution_in g e) where
   pub left_made : se ≡ true → (past ended : ℕ) → past ≡ without s.alive s.early → ended ≡ ended_of masks g done past e

@@ -13,7 +13,9 @@ use Rattle.bits.specs.Below.{bit, greatest, some, word}
 use Rattle.bits.proofs.Laws.Below.{some_found}
 use Rattle.bits.proofs.Laws.Bools.{and_left, clash, either, never_true, not_of, same_test}
 use Rattle.bits.proofs.Laws.Word.{bit_above, bit_word, word_none}
-use Rattle.tables.specs.declared.answers.Outcome.TheVariants.{Done, Refused}
+use Rattle.std.specs.Prelude.{Result, Ok}
+use Rattle.tables.specs.declared.answers.Refusal.{Refusal}
+use Rattle.tables.specs.Outcomes.{Done, Refused}
 use Rattle.zsrm.specs.declared.answers.Claim.{Claim}
 use Rattle.zsrm.specs.declared.answers.Claim.TheVariants.{Legal, NotLegal}
 use Rattle.zsrm.specs.declared.answers.Replayed.{Replayed}
@@ -38,7 +40,6 @@ use Rattle.zsrm.proofs.Laws.View.{candidate_view, seen}
 use Rattle.zsrm.proofs.Laws.Replay.{legal_stops, replayed_is}
 use Rattle.tables.proofs.Laws.Accepted.{bounded, lists_few}
 use Rattle.tables.proofs.Laws.Refusals.{unless_done, unless_refused}
-use Rattle.zsrm.specs.declared.answers.Claim.TheVariants as claims
 
 -- the reasons for a scheduling instant, place by place
 abbrev pub instant_in : Lists → Bool → ℕ → Record → ℕ → Bool
@@ -141,25 +142,25 @@ claim_answer_law g schedule x p = ap (λ (n : ℕ). cond (eqb n (length schedule
 
 -- what the code answers to a schedule that is to be replayed: the claim and the record that goes with it
 module _ (g : Given) (horizon : ℕ) (schedule : List ℕ) where
-  replay_made : (c : Claim) (r : Record) → c ≡ claim_answer g horizon schedule → r ≡ if_legal c (replayed g schedule)
+  replay_made : (c : Result Claim Refusal) (r : Record) → c ≡ claim_answer g horizon schedule → r ≡ if_legal c (replayed g schedule)
       → ◌≡◌ {A = Replayed} (record { claim = c; «record» = r }) (replay_answer g horizon schedule)
   unfolding replay_answer
   replay_made c r p q =
-      ap₂ (λ (x : Claim) (y : Record). let z : Replayed = record { claim = x; «record» = y } in z) p (q ∙ ap (λ (x : Claim). if_legal x (replayed g schedule)) p)
+      ap₂ (λ (x : Result Claim Refusal) (y : Record). let z : Replayed = record { claim = x; «record» = y } in z) p (q ∙ ap (λ (x : Result Claim Refusal). if_legal x (replayed g schedule)) p)
 
   module _ (x : Walked) (w : WalkedAs g schedule x) (ok : check_schedule g.lists horizon (length schedule) ≡ Done) where
-    found : cond (eqb x.ticks (length schedule)) Legal (NotLegal x.ticks) ≡ claim_answer g horizon schedule
+    found : Ok (cond (eqb x.ticks (length schedule)) Legal (NotLegal x.ticks)) ≡ claim_answer g horizon schedule
     unfolding claim_answer
-    found = claim_answer_law g schedule x w ∙ sym (unless_done _ _ _ ok)
+    found = ap (λ (c : Claim). Ok c) (claim_answer_law g schedule x w) ∙ sym (unless_done _ _ _ ok)
 
-    pub replay_legal : x.ticks ≡ length schedule → ◌≡◌ {A = Replayed} (record { claim = Legal; «record» = x.«record» }) (replay_answer g horizon schedule)
-    replay_legal all = replay_made Legal x.«record» (rw (eq-eqb _ _ all) at found) (replayed_whole g schedule x w (sym w.ticks ∙ all))
+    pub replay_legal : x.ticks ≡ length schedule → ◌≡◌ {A = Replayed} (record { claim = Ok Legal; «record» = x.«record» }) (replay_answer g horizon schedule)
+    replay_legal all = replay_made (Ok Legal) x.«record» (rw (eq-eqb _ _ all) at found) (replayed_whole g schedule x w (sym w.ticks ∙ all))
 
     pub replay_illegal : (r : Record) → (x.ticks ≡ length schedule → ⊥) → r ≡ blank
-        → ◌≡◌ {A = Replayed} (record { claim = NotLegal x.ticks; «record» = r }) (replay_answer g horizon schedule)
-    replay_illegal r some q = replay_made (NotLegal x.ticks) r (rw (ne_eqb _ _ some) at found) q
+        → ◌≡◌ {A = Replayed} (record { claim = Ok (NotLegal x.ticks); «record» = r }) (replay_answer g horizon schedule)
+    replay_illegal r some q = replay_made (Ok (NotLegal x.ticks)) r (rw (ne_eqb _ _ some) at found) q
 
   pub replay_refused : (number place : ℕ) (r : Record) → check_schedule g.lists horizon (length schedule) ≡ Refused number place → r ≡ blank
-      → ◌≡◌ {A = Replayed} (record { claim = claims.Refused number place; «record» = r }) (replay_answer g horizon schedule)
+      → ◌≡◌ {A = Replayed} (record { claim = Refused number place; «record» = r }) (replay_answer g horizon schedule)
   unfolding claim_answer
-  replay_refused number place r e q = replay_made (claims.Refused number place) r (sym (unless_refused _ _ _ _ _ e)) q
+  replay_refused number place r e q = replay_made (Refused number place) r (sym (unless_refused _ _ _ _ _ e)) q

@@ -1,7 +1,7 @@
 -- What is carried stands for a record: a leap finishes at most its entry and ends who is ended in its first tick, and who comes in it opens
 -- at its end; so the words follow. Who is alive and not early is past zero slack. And up to the next arrival, the next zero-slack instant
 -- carried and the end of the entry's ticks a stretch is quiet, or silent where all that came are carried.
-use Prim.Native.Nat.{◌+◌, ◌<◌, ℕ, ◌≤◌}
+use Prim.Native.Nat.{◌+◌, ◌<◌, min, ℕ, ◌≤◌}
 use mathlib.Core.Bool.{◌&&◌, ◌||◌, Bool, cond, false, not, true}
 use mathlib.Core.List.{List}
 use mathlib.Core.Logic.{inl, inr, ◌⊎◌, ⊎_elim}
@@ -11,14 +11,15 @@ use native.Mathlib.Nat.{le_trans, lt_of_lt_of_le}
 use native.Mathlib.Omega.{arith}
 use lib.Dec.{eqb, leb, ltb}
 use lib.ListN.{get_or}
-use borrow.Author.Tests.{eq-eqb, eqb-true, le-leb, le-ltb, lt-leb, lt-ltb, ltb-false, ltb-true, ne_eqb}
+use Rattle.std.proofs.lemmas.Bool.{cases_lt}
+use borrow.Author.Tests.{eq-eqb, eqb-true, le-leb, le-ltb, lt-leb, lt-ltb, ltb-true, ne_eqb}
 use Rattle.bits.specs.Below.{bit, some, word}
 use Rattle.bits.specs.Word.{with_bit, without}
 use Rattle.bits.proofs.Laws.Below.{last_or_below, some_false, some_found}
 use Rattle.bits.proofs.Laws.Bools.{and_false_right, and_left, and_right, and_true, by_cond, clash, either, never_true, or_cases, or_left, or_right, same_test}
 use Rattle.bits.proofs.Laws.Word.{bit_above, bit_word, with_bit_word, without_word, word_lt, word_none, word_same}
 use Rattle.bits.proofs.Laws.Most.{most_there}
-use Rattle.tables.specs.declared.answers.Outcome.{Outcome}
+use Rattle.tables.specs.Outcomes.{Done}
 use Rattle.tables.specs.Refusals.{check_lists}
 use Rattle.tables.specs.Tables.{arrival, execution, job_count, job_criticality, job_nominal, zero_slack_instant}
 use Rattle.zsrm.specs.declared.compact.Going.{Going}
@@ -26,7 +27,7 @@ use Rattle.zsrm.specs.declared.record.Record.{Record}
 use Rattle.zsrm.specs.declared.record.Standing.{Standing}
 use Rattle.zsrm.specs.declared.record.Standing.TheVariants.{Ended, Finished, NotArrived, Unfinished}
 use Rattle.zsrm.specs.Code.Compact.{Carried, counted_in, Current, Holds, Onward, OnwardRun, stays, Times}
-use Rattle.zsrm.specs.Code.Gathered.{ahead_in, arrival_gap, arrival_in, Came, execution_in, run_gap, slack_gap, slack_in}
+use Rattle.zsrm.specs.Code.Gathered.{ahead_in, arrival_gap, arrival_in, Came, run_gap, slack_gap, slack_in}
 use Rattle.zsrm.specs.Code.Masks.{meet}
 use Rattle.zsrm.specs.Code.Leap.{Quiet, Silent, leapt}
 use Rattle.zsrm.specs.Code.Next.{next_standing}
@@ -212,7 +213,7 @@ module _ (g : Given) (all : Bool) (r : Record) (living early came soon : ℕ) (d
       each j l (no b) = rw (lt-ltb j came (omega (arith, b))) (sym (here j (omega (arith, b))))
       each j l (yes b) = rw (le-ltb j came b) (never_true _ (λ h. omega (arith, alive_counted j l (stays_alive g r e k j h))))
 
-  module _ (ok : check_lists g.lists ≡ Outcome.Done) (e k : ℕ) (next : came < job_count g.lists.jobs → r.tick + k ≤ arrival g.lists.jobs came) (until : r.tick + k ≤ soon)
+  module _ (ok : check_lists g.lists ≡ Done) (e k : ℕ) (next : came < job_count g.lists.jobs → r.tick + k ≤ arrival g.lists.jobs came) (until : r.tick + k ≤ soon)
       (finish : e < job_count g.lists.jobs → done_at r e + k ≤ execution g.lists.jobs e)
       (nominal : is_se g.mode ≡ true → e < job_count g.lists.jobs → done_at r e < job_nominal g.lists e → done_at r e + k ≤ job_nominal g.lists e) where
     coming : (j : ℕ) → came ≤ j → j < job_count g.lists.jobs → r.tick + k ≤ arrival g.lists.jobs j
@@ -423,24 +424,18 @@ counted_onward gathered n t s s' few l a q g all r done w e u at =
     b : s.came < job_count g.lists.jobs
     b = omega arith
 
-    less : (x y : ℕ) → cond (ltb x y) x y ≤ y
-    less x y = by_cond (λ k. k ≤ y) (ltb x y) x y (λ h. omega (arith, ltb-true x y h)) (λ _. omega arith)
+    less : (x y : ℕ) → min x y ≤ y
+    less x y = omega arith
 
-    low : (x y : ℕ) → cond (ltb x y) x y ≤ x
-    low x y = by_cond (λ k. k ≤ x) (ltb x y) x y (λ _. omega arith) (λ h. ltb-false x y h)
+    low : (x y : ℕ) → min x y ≤ x
+    low x y = omega arith
 
-    one : (x y : ℕ) → (cond (ltb x y) x y ≡ y) ⊎ (cond (ltb x y) x y ≡ x)
-    one x y = by_cond (λ k. (k ≡ y) ⊎ (k ≡ x)) (ltb x y) x y (λ _. inr refl) (λ _. inl refl)
+    one : (x y : ℕ) → (min x y ≡ y) ⊎ (min x y ≡ x)
+    one x y = ⊎_elim (λ l. inr (omega arith)) (λ l. inl (omega arith)) (cases_lt x y)
 
 -- one after another
 pub onward_then : (gathered : List ℕ) (n t : ℕ) (s s' s'' : Going) → Onward gathered n t s s' → Onward gathered n t s' s'' → Onward gathered n t s s''
 onward_then gathered n t s s' s'' a b g all r done w e u at = b g all r done w e u (a g all r done w e u at)
-
--- the code's steps to it
-pub counted_made : (g : List ℕ) (s : Going) (a e c z o : ℕ) → c ≡ execution_in g s.came → z ≡ slack_in g s.came → a ≡ cond (ltb 0 c) (with_bit s.alive s.came) s.alive
-    → e ≡ with_bit s.early s.came → o ≡ cond (ltb z s.soon) z s.soon → ◌≡◌ {A = Going} (record { alive = a; early = e; came = s.came + 1; soon = o }) (counted_in g s)
-unfolding counted_in
-counted_made g s a e c z o qc qz qa qe qo = rw (qa, qe, qo, qc, qz)
 
 pub counted_came : (g : List ℕ) (s s' : Going) → s' ≡ counted_in g s → s'.came ≡ s.came + 1
 unfolding counted_in
@@ -496,7 +491,7 @@ pub slack_within : (gathered : List ℕ) (early t most : ℕ) → slack_gap gath
 slack_within gathered early t most = (slack_stage gathered early t most 64).stage.most
 
 -- so what is carried is current
-pub current_made : (gathered : List ℕ) (n t : ℕ) (s s' : Going) (g : Given) (all : Bool) (r : Record) (done : List ℕ) → check_lists g.lists ≡ Outcome.Done → Times g.lists gathered
+pub current_made : (gathered : List ℕ) (n t : ℕ) (s s' : Going) (g : Given) (all : Bool) (r : Record) (done : List ℕ) → check_lists g.lists ≡ Done → Times g.lists gathered
     → n ≡ job_count g.lists.jobs → t ≡ r.tick → Onward gathered n t s s' → (s'.came < n → t < arrival_in gathered s'.came) → t < s'.soon → Holds g all r done s
     → Current g all r s'.alive s'.early s'.came s'.soon done
 current_made gathered n t s s' g all r done ok w e u on later ahead at =
@@ -515,7 +510,7 @@ module _ (g : Given) (all : Bool) (r : Record) (living early came soon : ℕ) (d
   pub current_came : Came g.lists r.tick came
   current_came = record { within = cur.carried.within; come = cur.carried.come; later = cur.later }
 
-  module _ (ok : check_lists g.lists ≡ Outcome.Done) (gathered : List ℕ) (w : Times g.lists gathered) (e most : ℕ) (within : r.tick + most ≤ soon)
+  module _ (ok : check_lists g.lists ≡ Done) (gathered : List ℕ) (w : Times g.lists gathered) (e most : ℕ) (within : r.tick + most ≤ soon)
       (runs : e < job_count g.lists.jobs → done_at r e < execution g.lists.jobs e) where
     abbrev pub reach : ℕ
     reach = arrival_gap gathered (job_count g.lists.jobs) came r.tick most

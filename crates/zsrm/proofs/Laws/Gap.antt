@@ -19,7 +19,7 @@ use Rattle.bits.proofs.Laws.Bools.{and_false, and_false_right, and_left, and_rig
 use Rattle.bits.proofs.Laws.Sweep.{Swept, swept_all, swept_here, swept_next, swept_none, swept_set, word_below}
 use Rattle.bits.proofs.Laws.Word.{bit_above, bit_word, with_bit_word, word_bits, word_same}
 use Rattle.bits.proofs.Readings.{least_reads}
-use Rattle.tables.specs.declared.answers.Outcome.{Outcome}
+use Rattle.tables.specs.Outcomes.{Done}
 use Rattle.tables.specs.Refusals.{before, check5, check6, check7, check8, check_jobs, check_lists}
 use Rattle.tables.specs.Tables.{arrival, execution, job_count, job_nominal, Lists, zero_slack_instant}
 use Rattle.tables.proofs.Laws.Accepted.{lists_jobs}
@@ -29,7 +29,7 @@ use Rattle.zsrm.specs.Code.Compact.{Times}
 use Rattle.zsrm.proofs.Laws.Gathered.{in_list}
 
 -- jobs stand by arrival
-module _ (l : Lists) (ok : check_lists l ≡ Outcome.Done) where
+module _ (l : Lists) (ok : check_lists l ≡ Done) where
   next_later : (j : ℕ) → suc j < job_count l.jobs → arrival l.jobs j ≤ arrival l.jobs (suc j)
   unfolding check_jobs check7
   next_later j b =
@@ -121,7 +121,7 @@ run_most g n se e done most r q =
     first = (until_is most done (execution_in g e)).stage.most
 
 module _ (l : Lists) (g : List ℕ) (w : Times l g) where
-  pub arrival_stage : (ok : check_lists l ≡ Outcome.Done) (t came most : ℕ) → Came l t came → ArrivalStage l t most (arrival_gap g (job_count l.jobs) came t most)
+  pub arrival_stage : (ok : check_lists l ≡ Done) (t came most : ℕ) → Came l t came → ArrivalStage l t most (arrival_gap g (job_count l.jobs) came t most)
   unfolding arrival_gap
   arrival_stage ok t came most c =
       by_cond (ArrivalStage l t most) (ltb came (job_count l.jobs)) (until most t (arrival_in g came)) most
@@ -243,7 +243,7 @@ slack_stage g early t most (suc m) = go (slack_stage g early t most m)
             pick j i a (inr b) = omega (arith, s.all j b i a, u.stage.most)
 
 -- nothing happens for as many ticks as `gap_in` says
-module _ (l : Lists) (g : List ℕ) (ok : check_lists l ≡ Outcome.Done) (few : job_count l.jobs ≤ 64) (w : Gathers l g) where
+module _ (l : Lists) (g : List ℕ) (ok : check_lists l ≡ Done) (few : job_count l.jobs ≤ 64) (w : Gathers l g) where
   pub gap_is : (se : Bool) (t e done came early most : ℕ) → Came l t came → Early l t early → 1 ≤ most
       → Gap l se t e done most (gap_in g (job_count l.jobs) se t e done came early most)
   unfolding gap_in

@@ -11,13 +11,13 @@ use lib.ListN.{get_or, length, length-set, set}
 use lib.Seq.{get_or-set_other, get_or-set_same}
 use borrow.Author.Tests.{le-ltb, ltb-false, ltb-true}
 use Rattle.bits.specs.Below.{bit, greatest, greatest_key, least, some, word}
-use Rattle.bits.specs.Word.{from, without, without_lowest}
+use Rattle.bits.specs.Word.{without}
 use Rattle.bits.proofs.Laws.Below.{last_or_below, least_same, least_skip, some_same, some_skip}
 use Rattle.bits.proofs.Laws.Bools.{clash, either}
 use Rattle.bits.proofs.Laws.Most.{greatest_key_same, greatest_key_skip}
-use Rattle.bits.proofs.Laws.Sweep.{stays, Swept, word_below}
-use Rattle.bits.proofs.Laws.Word.{bit_above, bit_word, without_lowest_less, word_lt, word_same}
-use Rattle.tables.specs.declared.answers.Outcome.{Outcome}
+use Rattle.bits.proofs.Laws.Sweep.{stays, word_below}
+use Rattle.bits.proofs.Laws.Word.{bit_above, bit_word, word_same}
+use Rattle.tables.specs.Outcomes.{Done}
 use Rattle.tables.specs.Refusals.{check_lists}
 use Rattle.tables.proofs.Laws.Accepted.{accepted_job, accepted_task, lists_jobs, lists_tasks}
 use Rattle.tables.specs.Tables.{task_of, arrival, execution, idle, job_count, job_criticality, job_nominal, job_priority, Lists, zero_slack_instant}
@@ -45,16 +45,16 @@ module _ (g : List ℕ) (j a c z m s : ℕ) (size : length g ≡ 320) (few : j <
   abbrev four : List ℕ
   four = set three (5 * j + 3) m
 
-  pub size1 : length one ≡ 320
+  size1 : length one ≡ 320
   size1 = length-set g (5 * j) a ∙ size
 
-  pub size2 : length two ≡ 320
+  size2 : length two ≡ 320
   size2 = length-set one (5 * j + 1) c ∙ size1
 
-  pub size3 : length three ≡ 320
+  size3 : length three ≡ 320
   size3 = length-set two (5 * j + 2) z ∙ size2
 
-  pub size4 : length four ≡ 320
+  size4 : length four ≡ 320
   size4 = length-set three (5 * j + 3) m ∙ size3
 
   put_size : length (put_job g j a c z m s) ≡ 320
@@ -145,7 +145,7 @@ pub gathers_all : (l : Lists) (g : List ℕ) (j n : ℕ) → n ≡ job_count l.j
 gathers_all l g j n q a b w = rw (let e : job_count l.jobs ≡ j = omega arith in e) w
 
 -- what is gathered fits
-pub nominal_fits : (l : Lists) → check_lists l ≡ Outcome.Done → (j : ℕ) → j < job_count l.jobs → job_nominal l j ≤ 16384
+pub nominal_fits : (l : Lists) → check_lists l ≡ Done → (j : ℕ) → j < job_count l.jobs → job_nominal l j ≤ 16384
 unfolding job_nominal
 nominal_fits l ok j b = (accepted_task l.tasks (lists_tasks l ok) (task_of l.jobs j) (accepted_job l.tasks l.jobs (lists_jobs l ok) j b).known).nominal_most
 
@@ -279,11 +279,6 @@ module _ (g : List ℕ) (n : ℕ) (tie : Tie) (v : View) (previous top : ℕ) (s
   pub chosen_else_in : (stay && may) ≡ false → (x : ℕ) → x ≡ least 64 (level_in g v.eligible top) idle → x ≡ chosen_in g n tie v previous
   unfolding chosen_in
   chosen_else_in t x h = rw (← p, ← q, ← m, t) h
-
--- a loop over the set bits ends
-pub sweep_less : {A : Type 0} (S : ℕ → A) (w rest : ℕ) (acc : A) (r : ℕ) → Swept S w rest acc → 0 < rest → r ≡ without_lowest rest → r < rest
-unfolding from
-sweep_less S w rest acc r at l e = rw e (without_lowest_less rest (rw at.left (word_lt (λ p. leb at.place p && bit w p) 64)) l)
 
 -- and what the tick does
 pub ticked_in_law : (jobs : List ℕ) (v : View) (e ended : ℕ) → ticked_in (job_count jobs) v e ended ≡ ticked_by jobs v e ended

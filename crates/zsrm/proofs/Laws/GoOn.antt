@@ -14,8 +14,9 @@ use lib.Dec.{eqb, ltb}
 use lib.ListN.{drop, length, length-append}
 use borrow.Author.Tests.{eq-eqb, eqb-true, le-ltb, lt-ltb, ltb-false, ne_eqb, not-false}
 use Rattle.bits.proofs.Laws.Bools.{either}
-use Rattle.tables.specs.declared.answers.Outcome.{Outcome}
-use Rattle.tables.specs.declared.answers.Outcome.TheVariants.{Done, Refused}
+use Rattle.std.specs.Prelude.{Ok, Err}
+use Rattle.zsrm.specs.declared.answers.Claim.{Claim}
+use Rattle.tables.specs.Outcomes.{Outcome, Done, Refused}
 use Rattle.zsrm.specs.declared.record.Record.{Record}
 use Rattle.zsrm.specs.declared.tie.Tie.{Tie}
 use Rattle.zsrm.specs.declared.tie.Tie.TheVariants.{Lowest, Stay}
@@ -204,7 +205,7 @@ module _ (g : Given) (tie : Tie) (r : Record) (lent : List ℕ) (one : length le
     where
       go : (o : Outcome) → unless o (λ number place. blank) (advanced g r (choice g tie r)) ≡ (unless o refused_step (stepped g tie r)).«record»
       go Done = refl
-      go (Refused number place) = refl
+      go (Err w) = refl
 
 -- the fresh record is consistent, and has room for every horizon that is not refused
 fresh_checked : (g : Given) (horizon entries : ℕ) (r : Record) → horizon ≤ 16384 → r ≡ fresh g.lists.jobs
@@ -230,7 +231,7 @@ run_goes_on g tie horizon lent r b from = go (check_lists g.lists) refl
       ap₂ (λ (o : Outcome) (l : List ℕ). unless o (λ number place. lent) l) (ap (before Done) (fresh_checked g horizon (length lent) r b (from ok)))
           (unfold run_entries in ap (λ (x : Record). entries_by g (choice g tie) x horizon) (sym (from ok))),
     )
-    go (Refused number place) ok = (unfold ran before unless in refl, unfold before unless in refl)
+    go (Err w) ok = (unfold ran before unless in refl, unfold before unless in refl)
 
 -- from the record of a run of ours both tie choices go on alike: their longer runs agree, and so do the beginnings of these
 cancel : (xs ys zs : List ℕ) → xs ++ ys ≡ xs ++ zs → ys ≡ zs
@@ -278,7 +279,7 @@ module _ (g : Given) (horizon : ℕ) (schedule : List ℕ) (c : LegalClaim g hor
       let t : (replayed g schedule).tick ≡ length schedule = unfold replayed in tick_replay g (fresh g.lists.jobs) schedule ∙ rw tick_fresh (omega arith) in
       go_on_accepted g (replayed g schedule) ticks (length lent) a.lists whole (replayed_consistent g schedule (omega (arith, a.whole)) c.legal) (omega (arith, a.whole))
 
-  pub claim_goes_on : claim_answer g (horizon + ticks) (schedule ++ go_on_schedule g Stay (replayed g schedule) ticks lent) ≡ claims.Legal
+  pub claim_goes_on : claim_answer g (horizon + ticks) (schedule ++ go_on_schedule g Stay (replayed g schedule) ticks lent) ≡ Ok claims.Legal
   unfolding claim_answer check_schedule check9 check10 refuse before
   claim_goes_on =
       let a = c.input in
@@ -286,5 +287,5 @@ module _ (g : Given) (horizon : ℕ) (schedule : List ℕ) (c : LegalClaim g hor
       let n : length (schedule ++ es) ≡ horizon + ticks = simp length-append (omega (arith, a.whole, length_entries g (choice g Stay) ticks (replayed g schedule))) in
       let ok : check_schedule g.lists (horizon + ticks) (length (schedule ++ es)) ≡ Done = rw (a.lists, le-ltb 16384 (horizon + ticks) room, eq-eqb (length (schedule ++ es)) (horizon + ticks) n) in
       rw (go_on_given g Stay (replayed g schedule) ticks lent claim_accepted).1
-      (unless_done claims.Refused (claim g (schedule ++ es)) (check_schedule g.lists (horizon + ticks) (length (schedule ++ es))) ok
-      ∙ (whole_legal g (schedule ++ es)).1 (resumed_legal g (choice g Stay) (stay_resumes g (lists_few g.lists a.lists)) schedule ticks (omega (arith, a.whole)) c.legal))
+      (unless_done Refused (Ok (claim g (schedule ++ es))) (check_schedule g.lists (horizon + ticks) (length (schedule ++ es))) ok
+      ∙ ap (λ (c : Claim). Ok c) ((whole_legal g (schedule ++ es)).1 (resumed_legal g (choice g Stay) (stay_resumes g (lists_few g.lists a.lists)) schedule ticks (omega (arith, a.whole)) c.legal)))

@@ -9,12 +9,11 @@ use mathlib.Core.Path.{ap, ap₂, refl, sym, ◌∙◌, ◌≡◌}
 use native.Mathlib.Numerals.{add-one}
 use native.Mathlib.Omega.{arith}
 use lib.Dec.{eqb, ltb}
-use lib.ListN.{drop, get_or, length, length-append, length-replicate, replicate, replicate-append-replicate, set, take}
+use lib.ListN.{drop, get_or, length, length-append, length-replicate, replicate, replicate-append-replicate, take}
 use lib.Seq.{drop-cons, length-sets, length-take-le, sets, sets-eq, take-add, take_at}
 use borrow.Author.Tests.{eq-eqb, lt-ltb, ne_eqb}
 use Rattle.bits.proofs.Laws.Below.{some_false}
 use Rattle.bits.proofs.Laws.Bools.{and_left, and_true, not_of, or_left, or_right, same_test}
-use Rattle.bits.proofs.Laws.Lists.{sets_sets}
 use Rattle.tables.specs.Tables.{idle, job_count}
 use Rattle.zsrm.specs.declared.claims.Walked.{Walked}
 use Rattle.zsrm.specs.declared.record.Record.{Record}
@@ -178,11 +177,6 @@ pub stored_front : (l vs : List ℕ) (t k : ℕ) → length vs ≡ k → t + k �
 stored_front l vs t k long b =
     ap (take (t + k)) (sets-eq vs l t (omega arith))
     ∙ take_at (take t l ++ vs) (drop (t + length vs) l) (t + k) (length-append (take t l) vs ∙ ap₂ (λ (x y : ℕ). x + y) (length-take-le t l (omega arith)) long)
-
-pub stored_more : (l : List ℕ) (t k e : ℕ) → set (sets l t (replicate k e)) (t + k) e ≡ sets l t (replicate (k + 1) e)
-stored_more l t k e =
-    ap (λ (m : ℕ). set (sets l t (replicate k e)) (t + m) e) (sym (length-replicate k e)) ∙ sets_sets (replicate k e) (e ∷ []) l t
-    ∙ ap (sets l t) (replicate-append-replicate k 1 e)
 
 pub stored_none_bytes : (l : List ℕ) (t e : ℕ) → l ≡ sets l (t * 2) (bytes_of 2 (replicate 0 e))
 unfolding bytes_of

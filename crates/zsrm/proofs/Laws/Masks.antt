@@ -22,7 +22,7 @@ use Rattle.bits.proofs.Laws.Bools.{and_false, and_left, and_right, and_true, by_
 use Rattle.bits.proofs.Laws.Sweep.{stays, Swept, swept_all, swept_here, swept_next, swept_none, swept_set}
 use Rattle.bits.proofs.Laws.Word.{and_words, bit_above, bit_word, lowest_set, or_words, word_bits, word_lt, word_none, word_same}
 use Rattle.bits.proofs.Readings.{least_reads}
-use Rattle.tables.specs.declared.answers.Outcome.{Outcome}
+use Rattle.tables.specs.Outcomes.{Done}
 use Rattle.tables.specs.Refusals.{check_lists}
 use Rattle.tables.specs.Tables.{criticality, idle, job_count, job_criticality, job_priority, Lists, priority, task_count, task_of}
 use Rattle.tables.proofs.Laws.Accepted.{accepted_job, few_tasks, lists_few, lists_jobs, lists_tasks}
@@ -296,7 +296,7 @@ job_word_at jobs f j few = go (either (ltb j 64))
         ∙ sym (ap (λ (x : Bool). x && f j) (le-ltb j (job_count jobs) (omega arith)))
 
 -- the words of the tasks that pass, joined, are the word of the jobs whose task does
-module _ (l : Lists) (ok : check_lists l ≡ Outcome.Done) where
+module _ (l : Lists) (ok : check_lists l ≡ Done) where
   known : (j : ℕ) → j < job_count l.jobs → task_of l.jobs j < task_count l.tasks
   known j b = (accepted_job l.tasks l.jobs (lists_jobs l ok) j b).known
 
@@ -422,7 +422,7 @@ meet_jobs jobs f h few =
     go false a b = refl
 
 -- the set's jobs of its highest priority
-module _ (g : Given) (masks : List ℕ) (ok : check_lists g.lists ≡ Outcome.Done) (w : Masks g.lists masks) (F : ℕ → Bool) where
+module _ (g : Given) (masks : List ℕ) (ok : check_lists g.lists ≡ Done) (w : Masks g.lists masks) (F : ℕ → Bool) where
   few : job_count g.lists.jobs ≤ 64
   few = lists_few g.lists ok
 
@@ -523,7 +523,7 @@ least_any f n d e b t =
     let x = least_found f n d t in
     sym (least_is f n e (least n f d) x.0 (none_passes f (least n f d) ((least_reads f n d (least n f d) x.0 b).0 refl).1) x.1)
 
-module _ (g : Given) (r : Record) (masks : List ℕ) (ok : check_lists g.lists ≡ Outcome.Done) (w : Masks g.lists masks) where
+module _ (g : Given) (r : Record) (masks : List ℕ) (ok : check_lists g.lists ≡ Done) (w : Masks g.lists masks) where
   -- the top of the eligible jobs are the candidates
   pub top_candidates : top_of masks (job_word g.lists.jobs (eligible g r)) ≡ job_word g.lists.jobs (candidate g r)
   unfolding candidate
@@ -599,7 +599,7 @@ module _ (g : Given) (r : Record) (masks : List ℕ) (ok : check_lists g.lists �
           ∙ left _ (eqb e idle) _ _ there (some_candidate (omega (arith, eqb-false A 0 n)))
 
 -- the jobs less critical than some job of a set that passes
-module _ (g : Given) (r : Record) (masks gathered : List ℕ) (ok : check_lists g.lists ≡ Outcome.Done) (w : Masks g.lists masks) (t : Tasks g.lists gathered) where
+module _ (g : Given) (r : Record) (masks gathered : List ℕ) (ok : check_lists g.lists ≡ Done) (w : Masks g.lists masks) (t : Tasks g.lists gathered) where
   -- of each job, those less critical than it
   less_of_law : (i j : ℕ) → i < job_count g.lists.jobs → j < job_count g.lists.jobs → bit (less_of masks gathered j) i ≡ more_critical g j i
   unfolding less_of task_in more_critical job_criticality

@@ -14,7 +14,8 @@ use borrow.Author.Tests.{eq-eqb, eqb-true, ne_eqb, not-false}
 use Rattle.bits.specs.Below.{count}
 use Rattle.bits.proofs.Laws.Below.{count_most, count_none, count_parts, count_same, count_some}
 use Rattle.bits.proofs.Laws.Bools.{by_cond, either, apart}
-use Rattle.tables.specs.declared.answers.Outcome.TheVariants.{Done, Refused}
+use Rattle.std.specs.Prelude.{Ok}
+use Rattle.tables.specs.Outcomes.{Done, Refused}
 use Rattle.tables.specs.Refusals.{before, check10, refuse, check_schedule}
 use Rattle.tables.specs.Tables.{idle, job_count, Lists}
 use Rattle.tables.proofs.Laws.Accepted.{lists_few, Accepted, accepted}
@@ -229,11 +230,6 @@ module _ (g : Given) (schedule : List ℕ) where
       go true = (λ e. apart (cc), λ w. let e = w.0 in apart (cc))
       go false = (λ e. (cc, cc), λ w. let e = w.0 in let f = w.1 in cc)
 
-  pub mend_not_refused : (number place : ℕ) → mend g schedule ≡ mends.Refused number place → ⊥
-  unfolding mend
-  mend_not_refused number place =
-      by_cond (λ c. c ≡ mends.Refused number place → ⊥) (is_legal g schedule) mends.Whole _ (λ q e. apart (cc)) (λ q e. apart (cc))
-
 -- what mending that is not refused says of its input
 pub record Accepts (l : Lists) (horizon entries lent : ℕ) : Type 0 where
   pub checked : check_schedule l horizon entries ≡ Done
@@ -257,7 +253,7 @@ mend_accepted l horizon entries lent ok e = rw (ok, eq-eqb lent horizon e)
 module _ (g : Given) (horizon : ℕ) (schedule lent : List ℕ) where
   -- refused: the answer, and the second list
   pub refused_is : (number place : ℕ) → check_mend g.lists horizon (length schedule) (length lent) ≡ Refused number place
-      → (mend_answer g horizon schedule lent ≡ mends.Refused number place) × (mend_schedule g horizon schedule lent ≡ lent)
+      → (mend_answer g horizon schedule lent ≡ Refused number place) × (mend_schedule g horizon schedule lent ≡ lent)
   unfolding mend_answer mend_schedule
   refused_is number place e = let o = check_mend g.lists horizon (length schedule) (length lent) in (unless_refused _ _ o number place e, unless_refused _ _ o number place e)
 
@@ -265,19 +261,22 @@ module _ (g : Given) (horizon : ℕ) (schedule lent : List ℕ) where
     its : Accepts g.lists horizon (length schedule) (length lent)
     its = accepts g.lists horizon (length schedule) (length lent) ok
 
-    pub answer_is : mend_answer g horizon schedule lent ≡ mend g schedule
+    pub answer_is : mend_answer g horizon schedule lent ≡ Ok (mend g schedule)
     unfolding mend_answer
-    answer_is = unless_done mends.Refused (mend g schedule) (check_mend g.lists horizon (length schedule) (length lent)) ok
+    answer_is = unless_done Refused (Ok (mend g schedule)) (check_mend g.lists horizon (length schedule) (length lent)) ok
 
     pub schedule_is : mend_schedule g horizon schedule lent ≡ mended g schedule
     unfolding mend_schedule
     schedule_is = unless_done (λ number place. lent) (mended g schedule) (check_mend g.lists horizon (length schedule) (length lent)) ok
 
-    pub claim_says : (c : Claim) → claim_said (claim_answer g horizon schedule) ≡ claim_said c ↔ claim g schedule ≡ c
+    pub claim_says : (c : Claim) → claim_said (claim_answer g horizon schedule) ≡ claim_said (Ok c) ↔ claim g schedule ≡ c
     unfolding claim_answer
     claim_says c =
-        let is = unless_done claims.Refused (claim g schedule) (check_schedule g.lists horizon (length schedule)) its.checked in
-        (λ e. sym is ∙ claim_said_law (claim_answer g horizon schedule) c e, λ e. ap claim_said (is ∙ e))
+        let is = unless_done Refused (Ok (claim g schedule)) (check_schedule g.lists horizon (length schedule)) its.checked in
+        (λ e. let same = sym is ∙ claim_said_law (claim_answer g horizon schedule) (Ok c) e in cc, λ e. ap claim_said (is ∙ ap (λ (x : Claim). Ok x) e))
 
-    pub mend_says : (m : Mended) → mended_said (mend_answer g horizon schedule lent) ≡ mended_said m ↔ mend g schedule ≡ m
-    mend_says m = (λ e. sym answer_is ∙ mended_said_law (mend_answer g horizon schedule lent) m e, λ e. ap mended_said (answer_is ∙ e))
+    pub mend_says : (m : Mended) → mended_said (mend_answer g horizon schedule lent) ≡ mended_said (Ok m) ↔ mend g schedule ≡ m
+    mend_says m = (
+      λ e. let same = sym answer_is ∙ mended_said_law (mend_answer g horizon schedule lent) (Ok m) e in cc,
+      λ e. ap mended_said (answer_is ∙ ap (λ (x : Mended). Ok x) e),
+    )

@@ -6,12 +6,12 @@ use mathlib.Core.List.{List, [], ◌∷◌}
 use mathlib.Core.Logic.{inl, inr, ◌⊎◌}
 use mathlib.Core.Path.{ap, refl, sym, ◌∙◌, ◌≡◌}
 use native.Mathlib.Decide.{ℕ_discrete}
-use native.Mathlib.Nat.{le_antisymm, not-suc-le-zero}
+use native.Mathlib.Nat.{not-suc-le-zero}
 use native.Mathlib.Omega.{arith}
 use lib.Dec.{eqb, ltb}
 use lib.ListN.{get_or, length, length-replicate, length-set, replicate, set}
 use lib.Seq.{get_or-set_other, get_or-set_same, length-sets, sets}
-use borrow.Author.Tests.{eq-eqb, eqb-false, eqb-true, le-ltb, lt-ltb, ltb-true, ne_eqb}
+use borrow.Author.Tests.{eq-eqb, eqb-false, eqb-true, le-ltb, leb-false, leb-true, lt-ltb, ltb-true, ne_eqb}
 use Rattle.bits.specs.Below.{word}
 use Rattle.bits.specs.Word.{with_bit}
 use Rattle.bits.proofs.Laws.Below.{last_or_below}
@@ -19,8 +19,8 @@ use Rattle.bits.proofs.Laws.Bools.{either}
 use Rattle.bits.proofs.Laws.Lists.{sets_below}
 use Rattle.bits.proofs.Laws.Word.{collect, up_to, up_to_none}
 use Rattle.tables.specs.Bytes.{check_jobs_in, check_lists_in, check_tasks_in, numbers_in, uneven}
-use Rattle.tables.specs.declared.answers.Outcome.{Outcome}
-use Rattle.tables.specs.declared.answers.Outcome.TheVariants.{Done, Refused}
+use Rattle.std.specs.Prelude.{Ok, ⊤, leb}
+use Rattle.tables.specs.Outcomes.{Outcome, Done}
 use Rattle.tables.specs.Code.{Seen, soonest}
 use Rattle.tables.specs.declared.fields.Job.{Job}
 use Rattle.tables.specs.declared.fields.Task.{Task}
@@ -30,8 +30,8 @@ use Rattle.tables.specs.Tables.{arrival, criticality, execution, job_count, job_
 use Rattle.tables.proofs.Laws.InBytes.{jobs_in, tasks_counted, tasks_in}
 use Rattle.tables.proofs.Laws.Accepted.{accepted_task, few_tasks}
 use Rattle.tables.proofs.Laws.Bytes.{length_numbers}
-use Rattle.tables.proofs.Laws.Noted.{job_seen, job_checked, Looked, looked_all, looked_more, looked_none}
-use Rattle.tables.proofs.Laws.Refusals.{ascending_more, ascending_none, before_assoc, before_first, before_passes, before_second, before_stops, fine, refuse_fine, refused_here}
+use Rattle.tables.proofs.Laws.Noted.{job_seen, job_checked, Looked, looked_more, looked_none}
+use Rattle.tables.proofs.Laws.Refusals.{still_done, ascending_none, before_assoc, before_first, before_second, fine, refuse_fine}
 use Rattle.zsrm.specs.Bytes.{check1, check_bytes}
 use Rattle.zsrm.specs.Code.Reading.{Cleared, JobFits, Jobbed, job_row, job_tested, TaskFits, Tasked, task_row}
 use Rattle.zsrm.specs.Tick.{job_word}
@@ -134,25 +134,17 @@ module _ (tasks of : List ℕ) where
   pub tasks_none : length of ≡ 96 → TasksRead tasks of 0
   tasks_none e = record { passed = ascending_none (task_checked tasks); rows = rows_none 6 96 _ of e }
 
-  pub tasks_more : (k : ℕ) (task : Task) (one : Outcome) {after : List ℕ} → TasksRead tasks of k → k < 16 → task ≡ task_at tasks k
-      → one ≡ task_checked tasks k → one ≡ Done → after ≡ sets of (6 * k) (task_row task) → TasksRead tasks after (k + 1)
+  pub tasks_more : (k : ℕ) (task : Task) (one : Outcome) {after : List ℕ} {u : ⊤} → TasksRead tasks of k → k < 16 → task ≡ task_at tasks k
+      → one ≡ task_checked tasks k → one ≡ Ok u → after ≡ sets of (6 * k) (task_row task) → TasksRead tasks after (k + 1)
   tasks_more k task one w few own checked ok put = record {
-    passed = ascending_more (task_checked tasks) k ∙ before_passes _ _ w.passed ∙ sym checked ∙ ok;
+    passed = still_done (task_checked tasks) k w.passed checked ok;
     rows = rows_more 6 96 _ of k (task_row task) w.rows refl (ap task_row own) (omega arith) (λ i m a b. omega arith) put;
   }
-
-  pub tasks_stop : (k n : ℕ) (one : Outcome) (number place : ℕ) → TasksRead tasks of k → k < n → one ≡ task_checked tasks k → one ≡ Refused number place
-      → Refused number place ≡ ascending n (task_checked tasks)
-  tasks_stop k n one number place w l checked e = refused_here (task_checked tasks) n k one number place l w.passed checked e
-
-  pub tasks_all : (k n : ℕ) → TasksRead tasks of k → k ≤ n → n ≤ k → Done ≡ ascending n (task_checked tasks)
-  tasks_all k n w l m = rw (le_antisymm m l) (sym w.passed)
 
   pub tasked : (k : ℕ) → TasksRead tasks of k → k ≡ task_count tasks → Tasked tasks of
   tasked k w e =
       let r = rw e at w.rows in
       record {
-        size = r.size;
         periods = λ i l. ap (λ (p : ℕ). get_or of p 0) (let z : 6 * i ≡ 6 * i + 0 = omega arith in z) ∙ r.each i 0 l (omega arith);
         overloads = λ i l. r.each i 1 l (omega arith);
         nominals = λ i l. r.each i 2 l (omega arith);
@@ -198,21 +190,17 @@ module _ (of noted : List ℕ) (count above : ℕ) (job : Job) (j : ℕ) where
   abbrev unfit : Bool
   unfit = ltb 16384 job.arrival || ltb (get_or of (6 * job.task + 1) 0) job.execution
 
-  pub tested_unknown : count ≤ job.task → Refused 6 j ≡ job_tested of noted count above job j
+  pub tested_in_order : job_tested of noted count above job j
+      ≡ before (refuse (leb count job.task) 6 j)
+      (before (refuse unfit 6 j) (before (refuse (ltb job.arrival above) 7 j) (refuse (ltb job.arrival (get_or noted job.task 0)) 8 j)))
   unfolding job_tested refuse before
-  tested_unknown h = rw (le-ltb job.task count h)
-
-  pub tested_six : job.task < count → unfit ≡ true → Refused 6 j ≡ job_tested of noted count above job j
-  unfolding job_tested refuse before
-  tested_six h e = rw (lt-ltb job.task count h, e)
-
-  pub tested_seven : job.task < count → unfit ≡ false → job.arrival < above → Refused 7 j ≡ job_tested of noted count above job j
-  unfolding job_tested refuse before
-  tested_seven h e l = rw (lt-ltb job.task count h, e, lt-ltb job.arrival above l)
-
-  pub tested_eight : job.task < count → unfit ≡ false → above ≤ job.arrival → refuse (ltb job.arrival (get_or noted job.task 0)) 8 j ≡ job_tested of noted count above job j
-  unfolding job_tested refuse before
-  tested_eight h e l = rw (lt-ltb job.task count h, e, le-ltb job.arrival above l)
+  tested_in_order = go (either (leb count job.task))
+    where
+      go : (leb count job.task ≡ true) ⊎ (leb count job.task ≡ false) → job_tested of noted count above job j
+          ≡ before (refuse (leb count job.task) 6 j)
+          (before (refuse unfit 6 j) (before (refuse (ltb job.arrival above) 7 j) (refuse (ltb job.arrival (get_or noted job.task 0)) 8 j)))
+      go (inl a) = rw (a, le-ltb job.task count (leb-true count job.task a))
+      go (inr a) = rw (a, lt-ltb job.task count (leb-false count job.task a))
 
 -- a job of a table that passed: what is tested by the kept numbers is what is checked by the lists
 tested_same : (of noted tasks : List ℕ) (count above : ℕ) (job : Job) (j : ℕ) → (job.task < count → get_or of (6 * job.task + 1) 0 ≡ overload tasks job.task)
@@ -234,7 +222,7 @@ job_row_at l j = arrival l.jobs j ∷ execution l.jobs j ∷ zero_slack_instant 
 
 -- the first j jobs pass, and what is kept of them
 pub record JobsRead (tasks jobs : List ℕ) (j : ℕ) (noted : List ℕ) (above : ℕ) (out words : List ℕ) : Type 0 where
-  pub looked : Looked tasks jobs j noted above Done
+  pub looked : Looked tasks jobs j noted above
   pub rows : Rows 5 320 (job_row_at (lists tasks jobs)) out j
   pub words_size : length words ≡ 16
   pub words_of : (k : ℕ) → k < 16 → get_or words k 0 ≡ word 64 (up_to (λ i. eqb (task_of jobs i) k) j)
@@ -312,15 +300,15 @@ module _ (tasks jobs of : List ℕ) (ok : check_tasks tasks ≡ Done) (kept : Ta
       }
     where
       looked_more' : job_checked tasks jobs j ≡ Done → noted' ≡ set noted job.task (job.arrival + period tasks job.task)
-          → Looked tasks jobs (j + 1) noted' job.arrival Done
+          → Looked tasks jobs (j + 1) noted' job.arrival
       looked_more' passes note =
           let task = task_at tasks job.task in
           let from = soonest tasks jobs j job.task in
           let seen : Seen tasks jobs j job task (task_count tasks) above from
           = record { own = own; of_task_law = refl; tasks_counted = refl; last = w.looked.last; allowed = λ _. refl } in
-          looked_more tasks jobs j noted above Done w.looked job task (task_count tasks) from _ Done noted' own refl refl (λ _. refl)
-          (λ ts js s. job_seen ts js j job task (task_count tasks) above from s)
-          (sym (job_seen tasks jobs j job task (task_count tasks) above from seen ∙ passes)) note
+          looked_more tasks jobs j noted above w.looked job task (task_count tasks) from _ own refl refl (λ _. refl)
+          (λ ts js s. job_seen ts js j job task (task_count tasks) above from s) noted'
+          (job_seen tasks jobs j job task (task_count tasks) above from seen ∙ passes) note
 
       mine : job.task ≡ task_of jobs j
       mine = ap (λ (x : Job). x.task) own
@@ -338,13 +326,6 @@ module _ (tasks jobs of : List ℕ) (ok : check_tasks tasks ≡ Done) (kept : Ta
           ∙ collect (λ m. eqb (task_of jobs m) i) j (get_or words i 0) (get_or words i 0) false (w.words_of i l) (sym (ne_eqb (task_of jobs j) i (λ e. q (sym e ∙ sym mine)))) refl
 
 module _ (tasks jobs noted : List ℕ) (above : ℕ) (out words : List ℕ) where
-  pub jobs_stop : (j n : ℕ) (one : Outcome) (number place : ℕ) → JobsRead tasks jobs j noted above out words → j < n → one ≡ job_checked tasks jobs j → one ≡ Refused number place
-      → Refused number place ≡ ascending n (job_checked tasks jobs)
-  jobs_stop j n one number place w l checked e = refused_here (job_checked tasks jobs) n j one number place l (sym w.looked.all) checked e
-
-  pub jobs_all : (j n : ℕ) → JobsRead tasks jobs j noted above out words → j ≤ n → n ≤ j → Done ≡ ascending n (job_checked tasks jobs)
-  jobs_all j n w l m = looked_all tasks jobs j n noted above Done w.looked l m
-
   pub jobbed : (j : ℕ) → JobsRead tasks jobs j noted above out words → j ≡ job_count jobs → Jobbed (lists tasks jobs) out words
   unfolding job_word
   jobbed j w e =
@@ -376,18 +357,7 @@ module _ (mode : ℕ) (tasks jobs : List ℕ) (horizon count : ℕ) where
   abbrev ticks : Outcome
   ticks = before (check9 horizon) (before (uneven count 2 10) (check10 (count / 2) horizon))
 
-  pub call_mode : 1 < mode → Refused 1 0 ≡ check_bytes mode tasks jobs horizon count
-  unfolding check_bytes check1 refuse before
-  call_mode l = rw (lt-ltb 1 mode l)
-
-  module _ (known : mode ≤ 1) where
-    call_known : check_bytes mode tasks jobs horizon count ≡ before (check_tasks_in tasks) (before (check_jobs_in tasks jobs) ticks)
-    unfolding check_bytes check1 refuse before check_lists_in
-    call_known = rw (le-ltb 1 mode known) (before_assoc (check_tasks_in tasks) (check_jobs_in tasks jobs) ticks)
-
-    pub call_table : (found : Outcome) (number place : ℕ) → found ≡ check_tasks_in tasks → found ≡ Refused number place → Refused number place ≡ check_bytes mode tasks jobs horizon count
-    call_table found number place q e = sym (call_known ∙ before_stops (check_tasks_in tasks) _ number place (sym q ∙ e))
-
-    pub call_list : (found list rest : Outcome) → found ≡ check_tasks_in tasks → found ≡ Done → list ≡ check_jobs_in tasks jobs → rest ≡ ticks
-        → before list rest ≡ check_bytes mode tasks jobs horizon count
-    call_list found list rest q e p r = rw (p, r) (sym (call_known ∙ before_passes (check_tasks_in tasks) _ (sym q ∙ e)))
+  pub call_in_order : check_bytes mode tasks jobs horizon count
+      ≡ before (refuse (ltb 1 mode) 1 0) (before (check_tasks_in tasks) (before (check_jobs_in tasks jobs) ticks))
+  unfolding check_bytes check1 check_lists_in
+  call_in_order = ap (λ (o : Outcome). before (refuse (ltb 1 mode) 1 0) o) (before_assoc (check_tasks_in tasks) (check_jobs_in tasks jobs) ticks)

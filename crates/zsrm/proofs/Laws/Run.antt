@@ -26,7 +26,7 @@ use Rattle.zsrm.proofs.Laws.Places.{previous_advanced, tick_advanced, tick_fresh
 use Rattle.zsrm.proofs.Laws.Steady.{candidate_same}
 use Rattle.zsrm.proofs.Laws.Tick.{runs_or_idle}
 use Rattle.zsrm.proofs.Laws.Replay.{AllLegal, legal_at_fresh, legal_by, legal_first, legal_goes_on, legal_may, legal_rest}
-use Rattle.tables.specs.declared.answers.Outcome.TheVariants.{Done}
+use Rattle.tables.specs.Outcomes.{Done}
 use Rattle.tables.specs.Refusals.{check_lists}
 use Rattle.tables.proofs.Laws.Accepted.{lists_few}
 use Rattle.zsrm.proofs.Laws.Ties.{runs_agree}

@@ -15,8 +15,8 @@ use borrow.Author.Tests.{lt-ltb, ltb-false, ltb-true}
 use Rattle.bits.proofs.Laws.Below.{least_is, none_passes, some_found, some_true}
 use Rattle.bits.proofs.Laws.Bools.{and_false, and_left, and_right, and_true, clash, either, never_true, passed}
 use Rattle.bits.proofs.Readings.{least_reads}
-use Rattle.tables.specs.declared.answers.Outcome.{Outcome}
-use Rattle.tables.specs.declared.answers.Outcome.TheVariants.{Done, Refused}
+use Rattle.std.specs.Prelude.{Err}
+use Rattle.tables.specs.Outcomes.{Outcome, Done}
 use Rattle.tables.specs.Refusals.{before, check5, check6, check7, check8, check_jobs, check_lists, unless, check_schedule}
 use Rattle.tables.specs.Tables.{arrival, idle, job_count, job_criticality}
 use Rattle.tables.proofs.Laws.Accepted.{lists_few, lists_jobs, accepted}
@@ -194,4 +194,4 @@ run_ties g horizon lent = go (check_schedule g.lists horizon (length lent)) refl
         let a = accepted g.lists horizon (length lent) q in
         let w = runs_agree g a.lists horizon a.bounded in
         (ap (ran Done) w.1, w.0)
-    go (Refused number place) q = (refl, refl)
+    go (Err w) q = (refl, refl)

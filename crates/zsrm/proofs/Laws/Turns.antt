@@ -11,7 +11,7 @@ use lib.ListN.{get_or, length, length-replicate, replicate, take}
 use lib.Seq.{sets}
 use Rattle.bits.specs.Below.{bit, word}
 use Rattle.bits.specs.Below as below
-use Rattle.tables.specs.declared.answers.Outcome.TheVariants.{Done}
+use Rattle.tables.specs.Outcomes.{Done}
 use Rattle.tables.specs.Refusals.{check_lists}
 use Rattle.tables.specs.Tables.{job_count}
 use Rattle.tables.proofs.Laws.Accepted.{lists_few}
@@ -69,8 +69,8 @@ module _ (x : Given) (g : List ℕ) (n : ℕ) (se : Bool) (z : Setup x g n se) w
   few : job_count x.lists.jobs ≤ 64
   few = lists_few x.lists z.ok
 
-  pub setup_fits : (n ≤ 64) × (length g ≡ 320)
-  setup_fits = (omega (arith, few, z.count), z.gathers.size)
+  pub setup_fits : n ≤ 64
+  setup_fits = omega (arith, few, z.count)
 
   pub first_kept : (r : Record) (s : Underway) → s ≡ started_in g n r → Kept x.lists s
   first_kept r s q = rw (q, z.count) (kept_first x g z.ok z.gathers r)
@@ -120,9 +120,9 @@ module _ (x : Given) (g : List ℕ) (n : ℕ) (se : Bool) (z : Setup x g n se) w
 
     module _ (sound : consistent x s.«record» ≡ true) (e : ℕ) (may : candidate_or_idle x s.«record» e ≡ true) where
       -- what a leap asks for
-      pub turn_fits : (k : ℕ) → s.«record».tick + k ≤ 16384 → ((n ≤ 64) × (length g ≡ 320) × (s.came ≤ n))
+      pub turn_fits : (k : ℕ) → s.«record».tick + k ≤ 16384 → ((n ≤ 64) × (s.came ≤ n))
           × ((s.«record».tick + k ≤ 16384) × ((j : ℕ) → j < 64 → spent (place_at s.«record» j) ≤ s.«record».tick))
-      turn_fits k b = ((setup_fits.0, setup_fits.1, omega (arith, kept.came.within, z.count)), (b, spent_tick x s.«record» sound))
+      turn_fits k b = ((setup_fits, omega (arith, kept.came.within, z.count)), (b, spent_tick x s.«record» sound))
 
       module _ (k left : ℕ) (ql : left ≡ word 64 (ahead_in g s.early s.«record».tick)) (next : Underway) (made : next ≡ leap_in g n se s v e k left) where
         pub turn_record : next.«record» ≡ leapt x s.«record» e k

@@ -18,7 +18,7 @@ use Rattle.bits.proofs.Laws.Most.{greatest_key_same, greatest_key_skip}
 use Rattle.bits.proofs.Laws.Sweep.{stays}
 use Rattle.bits.proofs.Laws.Word.{bit_above, collect, word_none, word_same}
 use Rattle.bits.proofs.Readings.{least_reads}
-use Rattle.tables.specs.declared.answers.Outcome.TheVariants.{Done}
+use Rattle.tables.specs.Outcomes.{Done}
 use Rattle.tables.specs.Refusals.{check_lists}
 use Rattle.tables.specs.Tables.{arrival, execution, job_count, job_criticality, job_nominal, Lists, zero_slack_instant}
 use Rattle.tables.proofs.Laws.Accepted.{lists_few}

@@ -12,25 +12,26 @@ use lib.Dec.{ltb, leb}
 use borrow.Author.Tests.{ltb-true, not-false, leb-false, leb-true, le-leb, lt-ltb}
 use Rattle.bits.proofs.Laws.Arrays.{Written, written_all}
 use Rattle.bits.proofs.Laws.Below.{list_same}
-use Rattle.tables.specs.declared.answers.Outcome.{Outcome}
-use Rattle.tables.specs.declared.answers.Outcome.TheVariants.{Done, Refused}
-use Rattle.zsrm.specs.declared.answers.Judged.{Judged}
+use Rattle.std.specs.Prelude.{Result, Ok}
+use Rattle.tables.specs.declared.answers.Refusal.{Refusal}
+use Rattle.tables.specs.Outcomes.{Outcome, Done, Refused}
 use Rattle.zsrm.specs.declared.answers.Verdict.{Verdict}
 use Rattle.zsrm.specs.declared.answers.Verdicts.{Verdicts}
 use Rattle.zsrm.specs.declared.record.Record.{Record}
-use Rattle.zsrm.specs.Answers.{check_verdict, check_verdicts, judged_at, verdict_answer, verdicts_answer}
+use Rattle.zsrm.specs.Answers.{check_verdict, check_verdicts, verdict_answer, verdicts_answer}
 use Rattle.zsrm.specs.Given.{Given}
 use Rattle.tables.specs.Tables.{job_count, Lists, arrival, deadline_instant, task_of}
 use Rattle.zsrm.specs.Record.{consistent, check11, done_at, standing_at}
 use Rattle.tables.specs.Refusals.{before, check13, check_lists, unless, refuse}
 use Rattle.zsrm.specs.Verdict.{verdict, missed, is_open, judged}
-use Rattle.tables.proofs.Laws.Refusals.{before_assoc, before_first, before_second, refuse_fine, answered}
+use Rattle.tables.proofs.Laws.Refusals.{before_assoc, before_first, before_second, refuse_fine, given_by}
 use Rattle.tables.proofs.Laws.Accepted.{lists_few, apart, accepted_job, lists_jobs, lists_tasks, accepted_task}
 use mathlib.Core.Logic.Iff
 use mathlib.Core.Logic.{inl, inr, ◌↔◌, ◌⊎◌, ⊎_elim}
 use Rattle.bits.proofs.Laws.Bools.{clash, by_cond}
 use Rattle.tables.specs.Said.{done, outcome_said}
-use Rattle.zsrm.proofs.Laws.Said.{given_exactly, verdict_said_law}
+use Rattle.zsrm.proofs.Laws.Said.{verdict_said_law}
+use Rattle.tables.proofs.Laws.Said.{given_exactly}
 use Rattle.zsrm.proofs.Readings.{Judged as Judges, verdict_reads, is_open_reads}
 use Rattle.zsrm.specs.Said.{verdict_said}
 use Rattle.zsrm.specs.declared.record.Standing.{Standing}
@@ -69,22 +70,22 @@ verdict_sound g r j ok =
     not-false (consistent g r) (refuse_fine _ _ _ (before_first (check11 (consistent g r)) _ (before_second (check_lists g.lists) _ ok)))
 
 -- the verdict on a job of the list, from a consistent record, is no refusal
-pub verdict_answered : (g : Given) → check_lists g.lists ≡ Done → (r : Record) → consistent g r ≡ true → (j : ℕ) → j < job_count g.lists.jobs → verdict_answer g r j ≡ verdict g.lists r j
+pub verdict_answered : (g : Given) → check_lists g.lists ≡ Done → (r : Record) → consistent g r ≡ true → (j : ℕ) → j < job_count g.lists.jobs → verdict_answer g r j ≡ Ok (verdict g.lists r j)
 unfolding verdict_answer check_verdict check11 check13 refuse before unless
 verdict_answered g lists r sound j l = rw (lists, sound, lt-ltb j (job_count g.lists.jobs) l)
 
 -- a job that is finished by its deadline is judged met
 pub met_answer : (g : Given) → check_lists g.lists ≡ Done → (r : Record) → consistent g r ≡ true → (j : ℕ) → j < job_count g.lists.jobs
-    → (f : ℕ) → standing_at r j ≡ Finished f → f ≤ deadline_instant g.lists j → verdict_answer g r j ≡ verdicts.Met
+    → (f : ℕ) → standing_at r j ≡ Finished f → f ≤ deadline_instant g.lists j → verdict_answer g r j ≡ Ok verdicts.Met
 unfolding verdict
 met_answer g lists r sound j l f q b = verdict_answered g lists r sound j l ∙ rw (q, le-leb f (deadline_instant g.lists j) b)
 
 -- a verdict is given exactly where the checks pass and it is the judgement
-pub judged_exactly : (g : Given) (r : Record) (j : ℕ) (v : Verdict) → ((number place : ℕ) → verdicts.Refused number place ≡ v → ⊥)
-    → verdict_said (verdict_answer g r j) ≡ verdict_said v ↔ (outcome_said (check_verdict g r j) ≡ done) × Judges g r j v
+pub judged_exactly : (g : Given) (r : Record) (j : ℕ) (v : Verdict)
+    → verdict_said (verdict_answer g r j) ≡ verdict_said (Ok v) ↔ (outcome_said (check_verdict g r j) ≡ done) × Judges g r j v
 unfolding verdict_answer
-judged_exactly g r j v never =
-    Iff.trans (given_exactly verdict_said verdict_said_law verdicts.Refused (verdict g.lists r j) v never (check_verdict g r j))
+judged_exactly g r j v =
+    Iff.trans (given_exactly verdict_said verdict_said_law (verdict g.lists r j) (check_verdict g r j) v)
     (λ w. (w.0, (verdict_reads g r j v).0 w.1), λ w. (w.0, (verdict_reads g r j v).1 w.1))
 
 -- a judgement that is not missed is met or open
@@ -92,7 +93,6 @@ pub not_missed_law : (g : Given) (r : Record) (j : ℕ) → missed (verdict g.li
 not_missed_law g r j = go (verdict g.lists r j) refl
   where
     go : (v : Verdict) → verdict g.lists r j ≡ v → missed v ≡ false → (v ≡ verdicts.Met) ⊎ (v ≡ verdicts.Open)
-    go (verdicts.Refused n p) q h = absurd ((verdict_reads g r j (verdicts.Refused n p)).0 q)
     go verdicts.Met q h = inl refl
     go (verdicts.Late n is_exact) q h = clash refl h
     go verdicts.Ended q h = clash refl h
@@ -107,24 +107,20 @@ pub verdicts_refuse : (g : Given) (r : Record) (j number place : ℕ) → check_
 unfolding before
 verdicts_refuse g r j number place e = sym (verdict_checked g r j) ∙ rw e
 
-abbrev pub judged_by : Lists → Record → Outcome → ℕ → Judged
-judged_by l r checked j = record { verdict = unless (before checked (check13 l.jobs j)) verdicts.Refused (verdict l r j) }
+abbrev pub judged_by : Lists → Record → Outcome → ℕ → Result Verdict Refusal
+judged_by l r checked j = unless (before checked (check13 l.jobs j)) Refused (Ok (verdict l r j))
 
-pub judged_by_law : (l : Lists) (r : Record) (checked : Outcome) (j : ℕ) (v : Judged)
-    → v.verdict ≡ unless (before checked (check13 l.jobs j)) verdicts.Refused (verdict l r j) → v ≡ judged_by l r checked j
-judged_by_law l r checked j v q = ap (λ (x : Verdict). let y : Judged = record { verdict = x } in y) q
-
-pub verdicts_made : (g : Given) (r : Record) (checked : Outcome) (d : Judged) (held : List Judged) (out : Verdicts) (j : ℕ) → checked ≡ check_verdicts g r → out.outcome ≡ checked
+pub verdicts_made : (g : Given) (r : Record) (checked : Outcome) (d : Result Verdict Refusal) (held : List (Result Verdict Refusal)) (out : Verdicts) (j : ℕ) → checked ≡ check_verdicts g r → out.outcome ≡ checked
     → Written d (judged_by g.lists r checked) held out.of 64 j → 64 ≤ j → out ≡ verdicts_answer g r
-unfolding verdicts_answer judged_at verdict_answer
+unfolding verdicts_answer verdict_answer
 verdicts_made g r checked d held out j p told w m =
-    ap₂ (λ (o : Outcome) (l : List Judged). let y : Verdicts = record { outcome = o; of = l } in y) (told ∙ p)
+    ap₂ (λ (o : Outcome) (l : List (Result Verdict Refusal)). let y : Verdicts = record { outcome = o; of = l } in y) (told ∙ p)
     (written_all d (judged_by g.lists r checked) held out.of 64 j w (λ k x y. absurd (omega arith))
-    ∙ list_same 64 (judged_by g.lists r checked) (judged_at g r) (λ k x. ap (λ (v : Verdict). let y : Judged = record { verdict = v } in y) (same k)))
+    ∙ list_same 64 (judged_by g.lists r checked) (verdict_answer g r) (λ k x. same k))
   where
-    same : (k : ℕ) → unless (before checked (check13 g.lists.jobs k)) verdicts.Refused (verdict g.lists r k) ≡ unless (check_verdict g r k) verdicts.Refused (verdict g.lists r k)
+    same : (k : ℕ) → unless (before checked (check13 g.lists.jobs k)) Refused (Ok (verdict g.lists r k)) ≡ unless (check_verdict g r k) Refused (Ok (verdict g.lists r k))
     same k =
-        ap (λ (o : Outcome). unless o verdicts.Refused (verdict g.lists r k))
+        ap (λ (o : Outcome). unless o Refused (Ok (verdict g.lists r k)))
         (ap (λ (o : Outcome). before o (check13 g.lists.jobs k)) p ∙ verdict_checked g r k)
 
 -- a later job of a task arrives at an earlier one's deadline or after it
@@ -159,16 +155,16 @@ module _ (g : Given) (lists : check_lists g.lists ≡ Done) (r : Record) (sound 
 
 -- an answer that a job is open is no refusal: the lists are accepted and the record is consistent
 pub open_last : (g : Given) (r : Record) (i j : ℕ) → i < j → j < job_count g.lists.jobs → task_of g.lists.jobs j ≡ task_of g.lists.jobs i
-    → verdict_answer g r i ≡ verdicts.Open → verdict_answer g r j ≡ verdicts.Open
+    → verdict_answer g r i ≡ Ok verdicts.Open → verdict_answer g r j ≡ Ok verdicts.Open
 unfolding verdict_answer
 open_last g r i j m l its says =
-    let w = (answered verdicts.Refused (verdict g.lists r i) verdicts.Open (λ n p e. let z : ◌≡◌ {A = ℕ} 0 1 = cc in omega arith) (check_verdict g r i)).0 says in
+    let w = (given_by (verdict g.lists r i) (check_verdict g r i) verdicts.Open).0 says in
     let lists = (verdict_named g r i w.0).lists in
     let sound = verdict_sound g r i w.0 in
     let due = due_before g.lists lists i j m l its in
     let ahead = open_ahead g lists r sound i (omega arith) w.1 in
     let none = ahead_waits g lists r sound j l (omega arith) in
-    verdict_answered g lists r sound j l ∙ (verdict_reads g r j verdicts.Open).1 (inl none)
+    verdict_answered g lists r sound j l ∙ ap (λ (v : Verdict). Ok v) ((verdict_reads g r j verdicts.Open).1 (inl none))
 
 -- a verdict that is not open, and is missed or not as b says
 abbrev pub Final : Bool → Verdict → Type 0
@@ -176,7 +172,6 @@ Final b v = (is_open v ≡ false) × (missed v ≡ b)
 
 -- a verdict that is missed is not open
 pub missed_final : (v : Verdict) → missed v ≡ true → is_open v ≡ false
-missed_final (verdicts.Refused number place) h = refl
 missed_final verdicts.Met h = refl
 missed_final (verdicts.Late n is_exact) h = refl
 missed_final verdicts.Ended h = refl
@@ -184,7 +179,7 @@ missed_final verdicts.Open h = clash h refl
 
 pub is_open_law : (v : Verdict) → is_open v ≡ true → v ≡ verdicts.Open
 unfolding verdict_said
-is_open_law v h = verdict_said_law v verdicts.Open ((is_open_reads v).0 h)
+is_open_law v h = let same = verdict_said_law (Ok v) (Ok verdicts.Open) ((is_open_reads (Ok v)).0 h) in cc
 
 module _ (due : ℕ) (b : Bool) where
   -- an unfinished job whose verdict is final is past its deadline, and missed

@@ -27,7 +27,7 @@ use Rattle.zsrm.specs.Code.View.{less_critical_word, chosen, has_priority, is_pa
 use Rattle.zsrm.specs.Code.View.{overrun_word, overruns, past_word, priority_word, ticked, ticked_by, view, waiting_word, greatest_criticality}
 use Rattle.zsrm.proofs.Laws.Ready.{candidate_top}
 use Rattle.zsrm.proofs.Laws.Tick.{ends_by, se_reads, waiting}
-use Rattle.tables.specs.declared.answers.Outcome.TheVariants.{Done}
+use Rattle.tables.specs.Outcomes.{Done}
 use Rattle.zsrm.specs.declared.answers.Stepped.{Stepped}
 use Rattle.zsrm.specs.Answers.{stepped}
 use Rattle.tables.specs.Refusals.{check_lists}

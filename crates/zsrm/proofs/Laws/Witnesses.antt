@@ -8,7 +8,6 @@ use native.Mathlib.Omega.{arith}
 use lib.Dec.{ltb, eqb}
 use lib.ListN.{length, drop, take}
 use borrow.Author.Tests.{eqb-true, not-false, not-true, eq-eqb, lt-ltb}
-use Rattle.tables.specs.declared.answers.Outcome.TheVariants.{Done, Refused}
 use Rattle.zsrm.specs.declared.answers.Verdict.{Verdict}
 use Rattle.zsrm.specs.declared.answers.Witness.{Witness}
 use Rattle.zsrm.specs.declared.claims.Walked.{Walked}
@@ -28,7 +27,7 @@ use Rattle.zsrm.proofs.Laws.Claims.{replayed_whole}
 use Rattle.zsrm.proofs.Laws.Consistent.{Sound, sound_at_law}
 use Rattle.zsrm.proofs.Laws.Places.{tick_fresh}
 use Rattle.tables.proofs.Laws.Accepted.{Accepted, accepted}
-use Rattle.tables.proofs.Laws.Refusals.{before_first, before_second, unless_done}
+use Rattle.tables.proofs.Laws.Refusals.{before_first, before_second, same_ok, unless_done}
 use Rattle.zsrm.proofs.Laws.Replay.{tick_replay, AllLegal}
 use Rattle.zsrm.proofs.Readings.{spared, Within}
 use Rattle.zsrm.specs.Legal.{is_legal, legal_length, claim}
@@ -39,12 +38,12 @@ use Rattle.zsrm.proofs.Laws.Consistent.{replayed_consistent}
 use Rattle.zsrm.specs.declared.answers.Claim.{Claim}
 use mathlib.Core.Logic.Iff
 use mathlib.Core.Logic.{◌↔◌}
-use Rattle.tables.specs.declared.answers.Outcome.{Outcome}
-use Rattle.bits.proofs.Laws.Bools.{apart}
-use Rattle.zsrm.proofs.Laws.Said.{claim_said_law, given_exactly, verdict_said_law, witness_said_law}
+use Rattle.std.specs.Prelude.{Ok, Err}
+use Rattle.tables.specs.Outcomes.{Outcome, Done}
+use Rattle.zsrm.proofs.Laws.Said.{claim_said_law, verdict_said_law, witness_said_law}
 use Rattle.zsrm.specs.Said.{claim_said, legal, verdict_said, witness_said}
 use Rattle.zsrm.proofs.Laws.Answers.{is_legal_law}
-use Rattle.tables.proofs.Laws.Said.{said_done}
+use Rattle.tables.proofs.Laws.Said.{given_exactly, said_done}
 
 -- what a witness that is not refused says of its input
 pub record Witnessed (l : Lists) (horizon entries j : ℕ) : Type 0 where
@@ -137,7 +136,7 @@ job_checked_law l horizon entries j ok named = rw (ok, lt-ltb j (job_count l.job
 -- a legal schedule was accepted, and its verdicts are not refused
 module _ (g : Given) (horizon : ℕ) (schedule : List ℕ) (ok : claim_said (claim_answer g horizon schedule) ≡ legal) where
   module _ (j : ℕ) (l : j < job_count g.lists.jobs) where
-    pub judged_end : verdict_answer g (replayed g schedule) j ≡ verdict g.lists (replayed g schedule) j
+    pub judged_end : verdict_answer g (replayed g schedule) j ≡ Ok (verdict g.lists (replayed g schedule) j)
     judged_end =
         let c = is_legal_law g horizon schedule ok in
         let a = c.input in
@@ -152,16 +151,15 @@ module _ (g : Given) (horizon : ℕ) (schedule : List ℕ) (ok : claim_said (cla
 
 -- what is answered to a witness: w exactly where the claim is answered c, the job is in the list, and A holds
 module _ (g : Given) (horizon : ℕ) (schedule : List ℕ) (j : ℕ) where
-  pub claim_answer_law : (w : Witness) (c : Claim) (A : Type 0) → ((number place : ℕ) → witnesses.Refused number place ≡ w → ⊥)
-      → ((number place : ℕ) → claims.Refused number place ≡ c → ⊥)
+  pub claim_answer_law : (w : Witness) (c : Claim) (A : Type 0)
       → (witness g schedule j ≡ w ↔ (claim g schedule ≡ c) × A)
-      → witness_said (witness_answer g horizon schedule j) ≡ witness_said w ↔ (claim_said (claim_answer g horizon schedule) ≡ claim_said c) × (j < job_count g.lists.jobs) × A
+      → witness_said (witness_answer g horizon schedule j) ≡ witness_said (Ok w) ↔ (claim_said (claim_answer g horizon schedule) ≡ claim_said (Ok c)) × (j < job_count g.lists.jobs) × A
   unfolding witness_answer claim_answer check_witness
-  claim_answer_law w c A never plain means =
+  claim_answer_law w c A means =
       let asked = check_schedule g.lists horizon (length schedule) in
       let named = check_witness g.lists horizon (length schedule) j in
-      let claims-so = given_exactly claim_said claim_said_law claims.Refused (claim g schedule) c plain asked in
-      let says_so = given_exactly witness_said witness_said_law witnesses.Refused (witness g schedule j) w never named in (
+      let claims-so = given_exactly claim_said claim_said_law (claim g schedule) asked c in
+      let says_so = given_exactly witness_said witness_said_law (witness g schedule j) named w in (
         λ h. let x = says_so.0 h in
             let ok = (said_done named).0 x.0 in
             let a = means.0 x.1 in
@@ -171,23 +169,23 @@ module _ (g : Given) (horizon : ℕ) (schedule : List ℕ) (j : ℕ) where
       )
 
   -- and where the claim is legal
-  pub legal_answer : (w : Witness) (A : Type 0) → ((number place : ℕ) → witnesses.Refused number place ≡ w → ⊥)
+  pub legal_answer : (w : Witness) (A : Type 0)
       → (witness g schedule j ≡ w ↔ (claim g schedule ≡ claims.Legal) × A)
-      → witness_said (witness_answer g horizon schedule j) ≡ witness_said w ↔ (claim_said (claim_answer g horizon schedule) ≡ legal) × (j < job_count g.lists.jobs) × A
+      → witness_said (witness_answer g horizon schedule j) ≡ witness_said (Ok w) ↔ (claim_said (claim_answer g horizon schedule) ≡ legal) × (j < job_count g.lists.jobs) × A
   unfolding claim_said
-  legal_answer w A never means = claim_answer_law w claims.Legal A never (λ n p e. apart (cc)) means
+  legal_answer w A means = claim_answer_law w claims.Legal A means
 
   -- it is accepted where the witness is within the assumption and the job has the verdict v in the schedule; w is what is answered for v
-  pub accepted_exactly : (w : Witness) (v : Verdict) → ((number place : ℕ) → witnesses.Refused number place ≡ w → ⊥)
+  pub accepted_exactly : (w : Witness) (v : Verdict)
       → (witness g schedule j ≡ w ↔ (claim g schedule ≡ claims.Legal) × Within g j × (verdict g.lists (replayed g schedule) j ≡ v))
-      → witness_said (witness_answer g horizon schedule j) ≡ witness_said w
-      ↔ (claim_said (claim_answer g horizon schedule) ≡ legal) × (j < job_count g.lists.jobs) × Within g j × (verdict_said (verdict_answer g (replayed g schedule) j) ≡ verdict_said v)
-  accepted_exactly w v never blames =
+      → witness_said (witness_answer g horizon schedule j) ≡ witness_said (Ok w)
+      ↔ (claim_said (claim_answer g horizon schedule) ≡ legal) × (j < job_count g.lists.jobs) × Within g j × (verdict_said (verdict_answer g (replayed g schedule) j) ≡ verdict_said (Ok v))
+  accepted_exactly w v blames =
       Iff.trans
-      (legal_answer w (Within g j × (verdict g.lists (replayed g schedule) j ≡ v)) never
+      (legal_answer w (Within g j × (verdict g.lists (replayed g schedule) j ≡ v))
       (Iff.trans blames (λ m. (m.0, (m.1, m.2)), λ m. (m.0, m.1.0, m.1.1)))) (
-        λ m. (m.0, m.1, m.2.0, ap verdict_said (judged_end g horizon schedule m.0 j m.1 ∙ m.2.1)),
-        λ m. (m.0, m.1, (m.2, sym (judged_end g horizon schedule m.0 j m.1) ∙ verdict_said_law (verdict_answer g (replayed g schedule) j) v m.3)),
+        λ m. (m.0, m.1, m.2.0, ap verdict_said (judged_end g horizon schedule m.0 j m.1 ∙ ap (λ (x : Verdict). Ok x) m.2.1)),
+        λ m. (m.0, m.1, (m.2, same_ok (sym (judged_end g horizon schedule m.0 j m.1) ∙ verdict_said_law (verdict_answer g (replayed g schedule) j) (Ok v) m.3))),
       )
 
 -- where the part is empty the response is, refused or not
@@ -197,4 +195,4 @@ part_empty g horizon schedule j e = go (check_witness g.lists horizon (length sc
   where
     go : (o : Outcome) → unless o (λ number place. empty_part) (part g schedule j) ≡ empty_part
     go Done = e
-    go (Refused n p) = refl
+    go (Err w) = refl

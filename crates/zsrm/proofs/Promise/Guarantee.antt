@@ -7,6 +7,7 @@ use mathlib.Core.Logic.{inl}
 use mathlib.Core.Path.{ap, subst, ◌≡◌, ◌∙◌}
 use native.Mathlib.Omega.{arith}
 use lib.ListN.{get_or, length, drop, length-drop}
+use Rattle.std.specs.Prelude.{Ok}
 use Rattle.zsrm.specs.declared.mode.Mode.TheVariants.{S}
 use Rattle.zsrm.specs.declared.record.Record.{Record}
 use Rattle.zsrm.specs.declared.record.Standing.TheVariants.{Finished, Ended}
@@ -203,7 +204,7 @@ module _ (g : Given) (horizon : ℕ) (schedule : List ℕ) (ok : claim_said (cla
 pub open_jobs_last : (g : Given) (r : Record) (i j : ℕ) → verdict_said (verdict_answer g r i) ≡ still_open
     → i < j → j < job_count g.lists.jobs → task_of g.lists.jobs j ≡ task_of g.lists.jobs i → verdict_said (verdict_answer g r j) ≡ still_open
 unfolding verdict_said
-open_jobs_last g r i j says m l its = ap verdict_said (open_last g r i j m l its (verdict_said_law (verdict_answer g r i) Open says))
+open_jobs_last g r i j says m l its = ap verdict_said (open_last g r i j m l its (verdict_said_law (verdict_answer g r i) (Ok Open) says))
 
 module _ (g : Given) (horizon : ℕ) (schedule : List ℕ) (ok : claim_said (claim_answer g horizon schedule) ≡ legal) where
   -- ## The part that is shown of a job that finished at f: the schedule's entries from its arrival up to f

@@ -5,7 +5,6 @@ use mathlib.Core.List.{List}
 use mathlib.Core.Logic.{◌↔◌, ⊎_elim}
 use mathlib.Core.Path.{ap, refl, sym, ◌≡◌, ◌∙◌}
 use lib.ListN.{length}
-use Rattle.tables.specs.declared.answers.Outcome.TheVariants.{Done, Refused}
 use Rattle.zsrm.specs.declared.answers.Stepped.{Stepped}
 use Rattle.zsrm.specs.declared.record.Record.{Record}
 use Rattle.zsrm.specs.declared.tie.Tie.{Tie}
@@ -24,22 +23,19 @@ use Rattle.tables.specs.Tables.{arrival, lists}
 use Rattle.zsrm.specs.Verdict.{empty_part, verdict, witness, Part, part, part_to, shown_by}
 use Rattle.zsrm.proofs.Laws.Answers.{run_outcome}
 use Rattle.bits.proofs.Laws.Bools.{apart, by_cond}
-use Rattle.zsrm.proofs.Laws.Said.{claim_said_law, mended_said_law, verdict_said_law, witness_said_law, given_exactly}
-use Rattle.zsrm.proofs.Readings.{claim_not_refused, verdict_reads, witness_reads}
+use Rattle.zsrm.proofs.Laws.Said.{claim_said_law, mended_said_law, verdict_said_law, witness_said_law}
 use Rattle.zsrm.proofs.Laws.Verdicts.{verdicts_refuse}
 use Rattle.tables.proofs.Laws.Refusals.{unless_done, unless_refused, before_passes, before_stops}
-use Rattle.tables.proofs.Laws.Said.{refusal_exactly, said_done, said_refused}
+use Rattle.tables.proofs.Laws.Said.{given_exactly, refusal_exactly, said_done, said_refused}
 use Rattle.zsrm.specs.Legal.{claim, is_legal}
 use Rattle.zsrm.specs.Bytes.{check_bytes, claim_result, packed_outcome, run_bytes, run_result}
-use Rattle.zsrm.proofs.Laws.Mend.{mend_not_refused, refused_is}
+use Rattle.zsrm.proofs.Laws.Mend.{refused_is}
 use Rattle.zsrm.proofs.Laws.Witnesses.{part_empty}
-use Rattle.tables.specs.declared.answers.Outcome.{Outcome}
+use Rattle.std.specs.Prelude.{Err}
+use Rattle.tables.specs.Outcomes.{Outcome, Done}
 use Rattle.zsrm.proofs.Laws.Called.{decided, stopped}
 use borrow.Author.Tests.{ne_eqb}
 use Rattle.zsrm.specs.declared.answers.Claim.TheVariants as claims
-use Rattle.zsrm.specs.declared.answers.Mended.TheVariants as mends
-use Rattle.zsrm.specs.declared.answers.Verdict.TheVariants as verdicts
-use Rattle.zsrm.specs.declared.answers.Witness.TheVariants as witnesses
 use Rattle.zsrm.specs.declared.record.Standing.TheVariants as standings
 
 -- The outcome of a fresh record, a step, going on, a run and all verdicts is what its checks say; a claim, mending, a verdict and a witness
@@ -54,7 +50,7 @@ step_checked g tie r = go (check_step g r)
   where
     go : (o : Outcome) → (unless o refused_step (stepped g tie r)).outcome ≡ o
     go Done = refl
-    go (Refused n p) = refl
+    go (Err w) = refl
 
 pub go_on_checked : (g : Given) (tie : Tie) (r : Record) (ticks : ℕ) (lent : List ℕ) → (go_on_answer g tie r ticks lent).outcome ≡ check_go_on g r ticks (length lent)
 unfolding go_on_answer ran
@@ -71,29 +67,25 @@ pub claim_refused : (g : Given) (horizon : ℕ) (schedule : List ℕ) (number pl
     → claim_said (claim_answer g horizon schedule) ≡ refused number place ↔ outcome_said (check_schedule g.lists horizon (length schedule)) ≡ refused number place
 unfolding claim_answer claim_said
 claim_refused g horizon schedule number place =
-    refusal_exactly claim_said claim_said_law claims.Refused (λ n p m q e. cc) (λ n p. refl) (claim g schedule) (claim_not_refused g schedule)
-    (check_schedule g.lists horizon (length schedule)) number place
+    refusal_exactly claim_said claim_said_law (claim g schedule) (check_schedule g.lists horizon (length schedule)) (λ n p. refl) number place
 
 pub mend_refused : (g : Given) (horizon : ℕ) (schedule lent : List ℕ) (number place : ℕ)
     → mended_said (mend_answer g horizon schedule lent) ≡ refused number place ↔ outcome_said (check_mend g.lists horizon (length schedule) (length lent)) ≡ refused number place
 unfolding mend_answer mended_said
 mend_refused g horizon schedule lent number place =
-    refusal_exactly mended_said mended_said_law mends.Refused (λ n p m q e. cc) (λ n p. refl) (mend g schedule) (mend_not_refused g schedule)
-    (check_mend g.lists horizon (length schedule) (length lent)) number place
+    refusal_exactly mended_said mended_said_law (mend g schedule) (check_mend g.lists horizon (length schedule) (length lent)) (λ n p. refl) number place
 
 pub verdict_refused : (g : Given) (r : Record) (j number place : ℕ)
     → verdict_said (verdict_answer g r j) ≡ refused number place ↔ outcome_said (check_verdict g r j) ≡ refused number place
 unfolding verdict_answer verdict_said
 verdict_refused g r j number place =
-    refusal_exactly verdict_said verdict_said_law verdicts.Refused (λ n p m q e. cc) (λ n p. refl) (verdict g.lists r j)
-    (λ n p e. (verdict_reads g r j (verdicts.Refused n p)).0 e) (check_verdict g r j) number place
+    refusal_exactly verdict_said verdict_said_law (verdict g.lists r j) (check_verdict g r j) (λ n p. refl) number place
 
 pub witness_refused : (g : Given) (horizon : ℕ) (schedule : List ℕ) (j number place : ℕ)
     → witness_said (witness_answer g horizon schedule j) ≡ refused number place ↔ outcome_said (check_witness g.lists horizon (length schedule) j) ≡ refused number place
 unfolding witness_answer witness_said
 witness_refused g horizon schedule j number place =
-    refusal_exactly witness_said witness_said_law witnesses.Refused (λ n p m q e. cc) (λ n p. refl) (witness g schedule j)
-    (λ n p e. (witness_reads g schedule j (witnesses.Refused n p)).0 e) (check_witness g.lists horizon (length schedule) j) number place
+    refusal_exactly witness_said witness_said_law (witness g schedule j) (check_witness g.lists horizon (length schedule) j) (λ n p. refl) number place
 
 -- Where all verdicts are refused, each of them is.
 pub verdicts_refused : (g : Given) (r : Record) (j number place : ℕ) → outcome_said (verdicts_answer g r).outcome ≡ refused number place
@@ -115,7 +107,7 @@ pub response_illegal : (g : Given) (horizon : ℕ) (schedule : List ℕ) (j t : 
     → response_answer g horizon schedule j ≡ empty_part
 unfolding claim_said claim_answer claim part
 response_illegal g horizon schedule j t says =
-    let e = ((given_exactly claim_said claim_said_law claims.Refused (claim g schedule) (claims.NotLegal t) (λ n p e. apart (cc)) _).0 says).1 in
+    let e = ((given_exactly claim_said claim_said_law (claim g schedule) _ (claims.NotLegal t)).0 says).1 in
     part_empty g horizon schedule j
     (by_cond (λ c. c ≡ claims.NotLegal t → part g schedule j ≡ empty_part) (is_legal g schedule) claims.Legal _ (λ q e. apart (cc)) (λ q e. rw q) e)
 

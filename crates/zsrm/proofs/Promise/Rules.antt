@@ -9,8 +9,6 @@ use mathlib.Core.Path.{ap, refl, subst, sym, ◌≡◌, ◌∙◌, ap₂}
 use native.Mathlib.Omega.{arith}
 use lib.ListN.{get_or, length}
 use Rattle.tables.specs.Bytes.{bytes_of, numbers_in}
-use Rattle.tables.specs.declared.answers.Outcome.TheVariants.{Done, Refused}
-use Rattle.zsrm.specs.declared.answers.Judged.{Judged}
 use Rattle.zsrm.specs.declared.answers.Stepped.{Stepped}
 use Rattle.zsrm.specs.declared.mode.Mode.TheVariants.{S}
 use Rattle.zsrm.specs.declared.record.Record.{Record}
@@ -19,7 +17,7 @@ use Rattle.zsrm.specs.declared.tie.Tie.TheVariants.{Lowest, Stay}
 use Rattle.zsrm.specs.declared.record.Standing.{Standing}
 use Rattle.zsrm.specs.declared.record.Standing.TheVariants.{Finished, Ended}
 use Rattle.zsrm.specs.Answers.{check_go_on, check_mend, check_step, check_verdict, claim_answer, fresh_answer, go_on_answer, go_on_schedule, mend_answer, mend_schedule, ran}
-use Rattle.zsrm.specs.Answers.{refused_step, replay_answer, judged_at, run_answer, run_schedule, step_answer, stepped, steps_from, verdict_answer, verdicts_answer, witness_answer, if_legal}
+use Rattle.zsrm.specs.Answers.{refused_step, replay_answer, run_answer, run_schedule, step_answer, stepped, steps_from, verdict_answer, verdicts_answer, witness_answer, if_legal}
 use Rattle.zsrm.specs.Record.{blank, consistent, fresh, standing_at, check11, check_room}
 use Rattle.tables.specs.Refusals.{check_lists, check_schedule, before, check10, check9, refuse, unless}
 use Rattle.zsrm.specs.Run.{replay, replayed, record_before, entries_by, final_by, run_entries, run_record}
@@ -30,30 +28,33 @@ use Rattle.zsrm.specs.Given.{Given, is_se}
 use Rattle.zsrm.specs.Mend.{differing, mend_choice, mended}
 use Rattle.tables.specs.Tables.{arrival, deadline, deadline_instant, idle, job_count, job_criticality, task_of, lists, execution, job_nominal}
 use Rattle.zsrm.specs.Tick.{candidate, choice}
-use Rattle.zsrm.specs.Verdict.{missed, verdict, is_open}
+use Rattle.zsrm.specs.Verdict.{verdict_is, missed, verdict, is_open}
 use Rattle.zsrm.proofs.Laws.Answers.{is_legal_law, run_claim, run_outcome, run_given_law, run_keeps, whole_legal}
 use Rattle.zsrm.proofs.Laws.Assumption.{ended_broken, first_outside}
 use Rattle.zsrm.proofs.Laws.Consistent.{replayed_consistent, unended, consistent_tick}
 use Rattle.zsrm.proofs.Laws.Places.{previous_advanced}
 use Rattle.zsrm.proofs.Laws.Replay.{tick_replay, replay_append}
 use Rattle.bits.proofs.Laws.Below.{get_or_list}
-use Rattle.bits.proofs.Laws.Bools.{apart, never_true, clash}
-use Rattle.zsrm.proofs.Laws.Said.{claim_said_law, finish_told, standing_said_law, verdict_said_law, given_exactly}
+use Rattle.bits.proofs.Laws.Bools.{never_true, clash}
+use Rattle.zsrm.proofs.Laws.Said.{claim_said_law, finish_told, standing_said_law, verdict_said_law}
 use Rattle.zsrm.proofs.Laws.Ties.{run_ties}
 use Rattle.zsrm.proofs.Readings.{FirstOutside, LeastIllegal, LegalAt, Within, alive_reads, claim_legal, claim_not_legal, witness_reads, is_open_reads}
 use Rattle.zsrm.proofs.Laws.Standings.{finishes_later}
 use Rattle.zsrm.proofs.Laws.Verdicts.{final_stays, judged_exactly, not_missed_law, verdict_answered, verdict_named, verdict_sound}
 use Rattle.tables.proofs.Laws.Bytes.{length_bytes, length_numbers, numbers_back}
 use Rattle.tables.proofs.Laws.Accepted.{accepted, lists_few}
-use Rattle.tables.proofs.Laws.Refusals.{unless_done, unless_refused, Other}
-use Rattle.tables.proofs.Laws.Said.{said_done, said_refused}
+use Rattle.tables.proofs.Laws.Refusals.{unless_done, unless_refused, Other, same_ok}
+use Rattle.tables.proofs.Laws.Said.{given_exactly, said_done, said_refused}
 use Rattle.zsrm.specs.Legal.{claim}
-use Rattle.zsrm.specs.Bytes.{check_bytes, claim_result, given_bytes, packed_claim, packed_outcome, run_bytes, run_result}
+use Rattle.zsrm.specs.Bytes.{packed_answer, check_bytes, claim_result, given_bytes, packed_claim, packed_outcome, run_bytes, run_result}
 use Rattle.zsrm.proofs.Laws.Mend.{Accepts, accepts, claim_says, length_mended, mend_accepted, mend_changed, mend_says}
 use Rattle.zsrm.proofs.Laws.Mend.{mend_whole, mended_counts, mended_differs, mended_earlier, mended_legal, mended_then, mended_whole, schedule_is}
 use Rattle.zsrm.proofs.Laws.Witnesses.{accepted_exactly, claim_answer_law, judged_end, legal_answer}
 use Rattle.zsrm.specs.declared.answers.Claim.{Claim}
-use Rattle.tables.specs.declared.answers.Outcome.{Outcome}
+use Rattle.std.specs.Prelude.{Result, Ok, Err}
+use Rattle.tables.specs.declared.answers.Refusal.{Refusal}
+use Rattle.zsrm.specs.declared.answers.Verdict.{Verdict}
+use Rattle.tables.specs.Outcomes.{Outcome, Done, Refused}
 use Rattle.zsrm.proofs.Laws.Called.{bytes_checked, c_claim_exactly, run_passed}
 use Rattle.zsrm.proofs.Laws.Choice.{choice_kept}
 use Rattle.zsrm.proofs.Laws.GoOn.{claim_accepted, claim_goes_on, fresh_record, go_on_accepted, go_on_given, go_on_said, goes_on_law, going, going_by}
@@ -122,11 +123,11 @@ replay_run g tie horizon lent = go o refl
 
     go : (x : Outcome) → o ≡ x → (replay_answer g horizon (run_schedule g tie horizon lent)).«record» ≡ (run_answer g tie horizon lent).«record»
     go Done ok =
-        ap (λ (c : Claim). if_legal c (replayed g (run_schedule g tie horizon lent))) (run_claim g tie horizon lent ok)
+        ap (λ (c : Result Claim Refusal). if_legal c (replayed g (run_schedule g tie horizon lent))) (run_claim g tie horizon lent ok)
         ∙ sym (run_record_law g tie horizon lent ((said_done o).1 ok))
-    go (Refused number place) e =
-        ap (λ (l : List ℕ). (replay_answer g horizon l).«record») (sym (run_keeps g tie horizon lent number place e))
-        ∙ ap (λ (c : Claim). if_legal c (replayed g lent)) (unless_refused claims.Refused (claim g lent) o number place e) ∙ sym (unless_refused _ _ o number place e)
+    go (Err w) e =
+        ap (λ (l : List ℕ). (replay_answer g horizon l).«record») (sym (run_keeps g tie horizon lent w.number w.place e))
+        ∙ ap (λ (c : Result Claim Refusal). if_legal c (replayed g lent)) (unless_refused Refused (Ok (claim g lent)) o w.number w.place e) ∙ sym (unless_refused _ _ o w.number w.place e)
 
 -- From the fresh record both tie choices make the same run, refusals too: the same answer, and the same entries written.
 pub ties_agree : (g : Given) (horizon : ℕ) (lent : List ℕ)
@@ -272,7 +273,7 @@ run_goes_on_alike g tie horizon lent ok ticks more = go (check_go_on g r ticks (
         → (ran o (final_by g (choice g Stay) r ticks) ≡ ran o (final_by g (choice g Lowest) r ticks))
         × (unless o (λ number place. more) (entries_by g (choice g Stay) r ticks) ≡ unless o (λ number place. more) (entries_by g (choice g Lowest) r ticks))
     go Done q = let e = run_alike g tie horizon lent (checked g tie horizon lent ok) ticks (goes_on_law g r ticks (length more) q).room in (ap (λ (es : List ℕ). ran Done (replay g r es)) e, e)
-    go (Refused number place) q = (refl, refl)
+    go (Err w) q = (refl, refl)
 
 -- From the record at the end of a schedule that the claim check answers legal, ours or any other, going on is done as far as tick 16,384 ..
 module _ (g : Given) (horizon : ℕ) (schedule : List ℕ) (ok : claim_said (claim_answer g horizon schedule) ≡ legal)
@@ -301,7 +302,7 @@ module _ (g : Given) (horizon : ℕ) (schedule : List ℕ) where
   unfolding claim_said claim_answer
   legal_exactly =
       let asked = check_schedule g.lists horizon (length schedule) in
-      Iff.trans (given_exactly claim_said claim_said_law claims.Refused (claim g schedule) claims.Legal (λ n p e. apart (cc)) asked) (
+      Iff.trans (given_exactly claim_said claim_said_law (claim g schedule) asked claims.Legal) (
         λ w. let a = accepted g.lists horizon (length schedule) ((said_done asked).0 w.0) in (w.0, λ t l. (claim_legal g schedule).0 w.1 t (omega arith)),
         λ w. let a = accepted g.lists horizon (length schedule) ((said_done asked).0 w.0) in (w.0, (claim_legal g schedule).1 (λ t l. w.1 t (omega arith))),
       )
@@ -311,7 +312,7 @@ module _ (g : Given) (horizon : ℕ) (schedule : List ℕ) where
       ↔ (outcome_said (check_schedule g.lists horizon (length schedule)) ≡ done) × LeastIllegal g schedule t
   unfolding claim_said claim_answer
   not_legal_exactly t =
-      Iff.trans (given_exactly claim_said claim_said_law claims.Refused (claim g schedule) (claims.NotLegal t) (λ n p e. apart (cc)) _)
+      Iff.trans (given_exactly claim_said claim_said_law (claim g schedule) _ (claims.NotLegal t))
       (λ w. (w.0, (claim_not_legal g schedule t).0 w.1), λ w. (w.0, (claim_not_legal g schedule t).1 w.1))
 
   -- Of a schedule that is replayed the claim is the claim check's own answer, refusals too ..
@@ -326,7 +327,7 @@ module _ (g : Given) (horizon : ℕ) (schedule : List ℕ) where
   replay_legal ok =
       let c = is_legal_law g horizon schedule ok in
       let a = c.input in
-      let end = ap (λ (x : Claim). if_legal x (replayed g schedule)) (claim_said_law (claim_answer g horizon schedule) claims.Legal ok) in
+      let end = ap (λ (x : Result Claim Refusal). if_legal x (replayed g schedule)) (claim_said_law (claim_answer g horizon schedule) (Ok claims.Legal) ok) in
       (end, ap (consistent g) end ∙ replayed_consistent g schedule (omega arith) c.legal)
 
   -- .. and else blank.
@@ -334,10 +335,10 @@ module _ (g : Given) (horizon : ℕ) (schedule : List ℕ) where
   unfolding replay_answer claim_said
   replay_blank = go (claim_answer g horizon schedule)
     where
-      go : (c : Claim) → (claim_said c ≡ legal → ⊥) → if_legal c (replayed g schedule) ≡ blank
-      go (claims.Refused number place) other = refl
-      go claims.Legal other = absurd (other refl)
-      go (claims.NotLegal t) other = refl
+      go : (c : Result Claim Refusal) → (claim_said c ≡ legal → ⊥) → if_legal c (replayed g schedule) ≡ blank
+      go (Err w) other = refl
+      go (Ok claims.Legal) other = absurd (other refl)
+      go (Ok (claims.NotLegal t)) other = refl
 
   -- A claim mended into a second list, where nothing is refused.
   module _ (lent : List ℕ) (ok : outcome_said (check_mend g.lists horizon (length schedule) (length lent)) ≡ done) where
@@ -355,8 +356,8 @@ module _ (g : Given) (horizon : ℕ) (schedule : List ℕ) where
     unfolding claim_said claim_answer
     mended_is_legal =
         ap claim_said (ap (claim_answer g horizon) made
-        ∙ unless_done claims.Refused (claim g (mended g schedule)) (check_schedule g.lists horizon (length (mended g schedule))) (rw (length_mended g schedule) its.checked)
-        ∙ mended_legal g schedule its.few its.limit)
+        ∙ unless_done Refused (Ok (claim g (mended g schedule))) (check_schedule g.lists horizon (length (mended g schedule))) (rw (length_mended g schedule) its.checked)
+        ∙ ap (λ (c : Claim). Ok c) (mended_legal g schedule its.few its.limit))
 
     -- A legal claim, and no other, is answered "whole", and comes back entry for entry.
     pub whole_exactly : mended_said (mend_answer g horizon schedule lent) ≡ whole ↔ claim_said (claim_answer g horizon schedule) ≡ legal
@@ -423,14 +424,14 @@ module _ (g : Given) (horizon : ℕ) (schedule : List ℕ) where
       ↔ (claim_said (claim_answer g horizon schedule) ≡ legal) × (j < job_count g.lists.jobs) × Within g j × (verdict_said (verdict_answer g (replayed g schedule) j) ≡ late n is_exact)
   unfolding witness_said verdict_said
   witness_exactly j n is_exact =
-      accepted_exactly g horizon schedule j (witnesses.AcceptedLate n is_exact) (verdicts.Late n is_exact) (λ n p e. apart (cc))
+      accepted_exactly g horizon schedule j (witnesses.AcceptedLate n is_exact) (verdicts.Late n is_exact)
       (witness_reads g schedule j (witnesses.AcceptedLate n is_exact))
 
   pub witness_ended_exactly : (j : ℕ) → witness_said (witness_answer g horizon schedule j) ≡ accepted_ended
       ↔ (claim_said (claim_answer g horizon schedule) ≡ legal) × (j < job_count g.lists.jobs) × Within g j × (verdict_said (verdict_answer g (replayed g schedule) j) ≡ ended)
   unfolding witness_said verdict_said
   witness_ended_exactly j =
-      accepted_exactly g horizon schedule j witnesses.AcceptedEnded verdicts.Ended (λ n p e. apart (cc)) (witness_reads g schedule j witnesses.AcceptedEnded)
+      accepted_exactly g horizon schedule j witnesses.AcceptedEnded verdicts.Ended (witness_reads g schedule j witnesses.AcceptedEnded)
 
   -- It is answered "outside the assumption", naming job i, exactly when its schedule is legal, the named job is in the list, and i is the
   -- first job of the list that is strictly more critical and whose c exceeds its C (`FirstOutside` in Readings).
@@ -438,7 +439,7 @@ module _ (g : Given) (horizon : ℕ) (schedule : List ℕ) where
       ↔ (claim_said (claim_answer g horizon schedule) ≡ legal) × (j < job_count g.lists.jobs) × FirstOutside g j i
   unfolding witness_said
   witness_outside_exactly j i =
-      legal_answer g horizon schedule j (witnesses.Outside i) (FirstOutside g j i) (λ n p e. apart (cc)) (witness_reads g schedule j (witnesses.Outside i))
+      legal_answer g horizon schedule j (witnesses.Outside i) (FirstOutside g j i) (witness_reads g schedule j (witnesses.Outside i))
 
   -- It is answered "not missed" exactly when its schedule is legal, the named job is in the list, every strictly more critical job keeps to
   -- C, and the named job is met or open ..
@@ -448,12 +449,12 @@ module _ (g : Given) (horizon : ℕ) (schedule : List ℕ) where
   unfolding witness_said verdict_said
   witness_not_missed_exactly j =
       Iff.trans
-      (legal_answer g horizon schedule j witnesses.NotMissed (Within g j × (missed (verdict g.lists (replayed g schedule) j) ≡ false)) (λ n p e. apart (cc))
+      (legal_answer g horizon schedule j witnesses.NotMissed (Within g j × (missed (verdict g.lists (replayed g schedule) j) ≡ false))
       (Iff.trans (witness_reads g schedule j witnesses.NotMissed) (λ m. (m.0, (m.1, m.2)), λ m. (m.0, m.1.0, m.1.1)))) (
         λ m. let q = judged_end g horizon schedule m.0 j m.1 in
-            (m.0, m.1, m.2.0, ⊎_elim (λ e. inl (ap verdict_said (q ∙ e))) (λ e. inr (ap verdict_said (q ∙ e))) (not_missed_law g (replayed g schedule) j m.2.1)),
+            (m.0, m.1, m.2.0, ⊎_elim (λ e. inl (ap verdict_said (q ∙ ap (λ (v : Verdict). Ok v) e))) (λ e. inr (ap verdict_said (q ∙ ap (λ (v : Verdict). Ok v) e))) (not_missed_law g (replayed g schedule) j m.2.1)),
         λ m. let q = sym (judged_end g horizon schedule m.0 j m.1) in
-            (m.0, m.1, (m.2, ⊎_elim (λ h. ap missed (q ∙ verdict_said_law _ verdicts.Met h)) (λ h. ap missed (q ∙ verdict_said_law _ verdicts.Open h)) m.3)),
+            (m.0, m.1, (m.2, ⊎_elim (λ h. ap missed (same_ok (q ∙ verdict_said_law _ (Ok verdicts.Met) h))) (λ h. ap missed (same_ok (q ∙ verdict_said_law _ (Ok verdicts.Open) h))) m.3)),
       )
 
   -- .. and "not legal at t" exactly when the claim check answers that of its schedule, and the named job is in the list.
@@ -462,7 +463,7 @@ module _ (g : Given) (horizon : ℕ) (schedule : List ℕ) where
   unfolding witness_said claim_said
   witness_not_legal_exactly j t =
       Iff.trans
-      (claim_answer_law g horizon schedule j (witnesses.NotLegal t) (claims.NotLegal t) (Unit {0}) (λ n p e. apart (cc)) (λ n p e. apart (cc))
+      (claim_answer_law g horizon schedule j (witnesses.NotLegal t) (claims.NotLegal t) (Unit {0})
       (Iff.trans (witness_reads g schedule j (witnesses.NotLegal t)) (λ e. (e, tt), λ m. m.0)))
       (λ m. (m.0, m.1), λ m. (m.0, m.1, tt))
 
@@ -477,7 +478,7 @@ module _ (g : Given) (r : Record) (j : ℕ) where
       ↔ (outcome_said (check_verdict g r j) ≡ done) × ((f : ℕ) × (standing_said (standing_at r j) ≡ finished_at f) × (f ≤ deadline_instant g.lists j))
   unfolding verdict_said standing_said
   met_exactly =
-      Iff.trans (judged_exactly g r j verdicts.Met (λ n p e. apart (cc))) (
+      Iff.trans (judged_exactly g r j verdicts.Met) (
         λ w. let v = w.1 in (w.0, (v.0, (stands (Finished v.0)).0 v.1, v.2)),
         λ w. let v = w.1 in (w.0, (v.0, (stands (Finished v.0)).1 v.1, v.2)),
       )
@@ -486,7 +487,7 @@ module _ (g : Given) (r : Record) (j : ℕ) where
       ↔ (outcome_said (check_verdict g r j) ≡ done) × (standing_said (standing_at r j) ≡ finished_at (deadline_instant g.lists j + n)) × (0 < n)
   unfolding verdict_said standing_said
   late_exactly n =
-      Iff.trans (judged_exactly g r j (verdicts.Late n true) (λ n p e. apart (cc))) (
+      Iff.trans (judged_exactly g r j (verdicts.Late n true)) (
         λ w. (w.0, (stands (Finished (deadline_instant g.lists j + n))).0 w.1.0, w.1.1),
         λ w. (w.0, ((stands (Finished (deadline_instant g.lists j + n))).1 w.1, w.2)),
       )
@@ -495,7 +496,7 @@ module _ (g : Given) (r : Record) (j : ℕ) where
       ↔ (outcome_said (check_verdict g r j) ≡ done) × (standing_said (standing_at r j) ≡ unfinished) × (r.tick ≡ deadline_instant g.lists j + n)
   unfolding verdict_said standing_said
   late_at_least n =
-      Iff.trans (judged_exactly g r j (verdicts.Late n false) (λ n p e. apart (cc))) (
+      Iff.trans (judged_exactly g r j (verdicts.Late n false)) (
         λ w. (w.0, (stands standings.Unfinished).0 ((alive_reads r j).0 w.1.0), w.1.1),
         λ w. (w.0, ((alive_reads r j).1 ((stands standings.Unfinished).1 w.1), w.2)),
       )
@@ -504,7 +505,7 @@ module _ (g : Given) (r : Record) (j : ℕ) where
       ↔ (outcome_said (check_verdict g r j) ≡ done) × ((e : ℕ) × (standing_said (standing_at r j) ≡ ended_in e))
   unfolding verdict_said standing_said
   ended_exactly =
-      Iff.trans (judged_exactly g r j verdicts.Ended (λ n p e. apart (cc))) (
+      Iff.trans (judged_exactly g r j verdicts.Ended) (
         λ w. let v = w.1 in (w.0, (v.0, (stands (Ended v.0)).0 v.1)),
         λ w. let v = w.1 in (w.0, (v.0, (stands (Ended v.0)).1 v.1)),
       )
@@ -514,7 +515,7 @@ module _ (g : Given) (r : Record) (j : ℕ) where
       × ((standing_said (standing_at r j) ≡ not_arrived) ⊎ ((standing_said (standing_at r j) ≡ unfinished) × (r.tick < deadline_instant g.lists j)))
   unfolding verdict_said standing_said
   open_exactly =
-      Iff.trans (judged_exactly g r j verdicts.Open (λ n p e. apart (cc))) (
+      Iff.trans (judged_exactly g r j verdicts.Open) (
         λ w. (w.0, ⊎_elim (λ q. inl ((stands standings.NotArrived).0 q)) (λ q. inr ((stands standings.Unfinished).0 ((alive_reads r j).0 q.0), q.1)) w.1),
         λ w. (w.0, ⊎_elim (λ q. inl ((stands standings.NotArrived).1 q)) (λ q. inr ((alive_reads r j).1 ((stands standings.Unfinished).1 q.0), q.1)) w.1),
       )
@@ -542,31 +543,31 @@ module _ (g : Given) (r : Record) (j : ℕ) where
       → verdict_said (verdict_answer g (replay g r entries) j) ≡ late m is_exact → n ≤ m
   unfolding standing_said verdict_said
   late_grows n m true entries says later =
-      let w = (judged_exactly g (replay g r entries) j (verdicts.Late m true) (λ n p e. apart (cc))).0 later in
+      let w = (judged_exactly g (replay g r entries) j (verdicts.Late m true)).0 later in
       omega (arith, late_finishes n (deadline_instant g.lists j + m) entries says (ap standing_said w.1.0))
   late_grows n m false entries says later =
-      let w = (judged_exactly g (replay g r entries) j (verdicts.Late m false) (λ n p e. apart (cc))).0 later in
+      let w = (judged_exactly g (replay g r entries) j (verdicts.Late m false)).0 later in
       omega (arith, ((late_at_least n).0 says).2, w.1.1, tick_replay g r entries)
 
   -- A verdict that is given and is not open is final: whatever entries follow, if the record that they lead to is consistent, the job's
   -- verdict there is not open, and it is missed there exactly where it was missed (`missed`: late or ended).
   pub verdict_final : (entries : List ℕ) → outcome_said (check_verdict g r j) ≡ done → (verdict_said (verdict_answer g r j) ≡ still_open → ⊥) → consistent g (replay g r entries) ≡ true
-      → (verdict_said (verdict_answer g (replay g r entries) j) ≡ still_open → ⊥) × (missed (verdict_answer g (replay g r entries) j) ≡ missed (verdict_answer g r j))
+      → (verdict_said (verdict_answer g (replay g r entries) j) ≡ still_open → ⊥) × (verdict_is missed (verdict_answer g (replay g r entries) j) ≡ verdict_is missed (verdict_answer g r j))
   verdict_final entries given closed sound =
       let ok = (said_done (check_verdict g r j)).0 given in
       let w = verdict_named g r j ok in
       let first = verdict_answered g w.lists r (verdict_sound g r j ok) j w.job in
       let then = verdict_answered g w.lists (replay g r entries) sound j w.job in
-      let not-open = never_true (is_open (verdict g.lists r j)) (λ h. closed ((is_open_reads (verdict_answer g r j)).0 (ap is_open first ∙ h))) in
+      let not-open = never_true (is_open (verdict g.lists r j)) (λ h. closed ((is_open_reads (verdict_answer g r j)).0 (ap (verdict_is is_open) first ∙ h))) in
       let stays = final_stays g j (omega (arith, w.job, w.few)) (missed (verdict g.lists r j)) entries r (not-open, refl) in (
-        λ e. clash ((is_open_reads (verdict_answer g (replay g r entries) j)).1 e) (ap is_open then ∙ stays.0),
-        ap missed then ∙ stays.1 ∙ sym (ap missed first),
+        λ e. clash ((is_open_reads (verdict_answer g (replay g r entries) j)).1 e) (ap (verdict_is is_open) then ∙ stays.0),
+        ap (verdict_is missed) then ∙ stays.1 ∙ sym (ap (verdict_is missed) first),
       )
 
 -- All verdicts at once are the verdicts one by one, refusals too.
-pub verdicts_each : (g : Given) (r : Record) (j : ℕ) (d : Judged) → j < 64 → (get_or (verdicts_answer g r).of j d).verdict ≡ verdict_answer g r j
-unfolding verdicts_answer judged_at
-verdicts_each g r j d l = ap (λ (x : Judged). x.verdict) (get_or_list 64 (judged_at g r) j d l)
+pub verdicts_each : (g : Given) (r : Record) (j : ℕ) (d : Result Verdict Refusal) → j < 64 → get_or (verdicts_answer g r).of j d ≡ verdict_answer g r j
+unfolding verdicts_answer
+verdicts_each g r j d l = get_or_list 64 (verdict_answer g r) j d l
 
 -- Where a job was ended, some job breaks the assumption.
 module _ (g : Given) (horizon : ℕ) (schedule : List ℕ) where
@@ -623,7 +624,7 @@ step_ends_none_in_s g tie r s = go (check_step g r)
   where
     go : (o : Outcome) → (unless o refused_step (stepped g tie r)).ended ≡ 0
     go Done = none_ended g r (choice g tie r) (ap is_se s)
-    go (Refused n p) = refl
+    go (Err w) = refl
 
 -- The calls from C, over the lists that the bytes spell: 0 is "done" of a run and "legal" of a claim, 65,536 + t is "not legal at t"; the
 -- bytes that a run then has written are our run's, and the claim check calls them legal.
@@ -647,15 +648,15 @@ module _ (mode : ℕ) (tasks jobs : List ℕ) (horizon : ℕ) (bytes : List ℕ)
   pub c_legal_exactly : claim_result mode tasks jobs horizon bytes ≡ 0
       ↔ (outcome_said (check_bytes mode tasks jobs horizon (length bytes)) ≡ done) × (claim_said (claim_answer (given_bytes mode tasks jobs) horizon (numbers_in 2 bytes)) ≡ legal)
   unfolding packed_claim claim_said
-  c_legal_exactly = c_claim_exactly mode tasks jobs horizon bytes claims.Legal (λ n p e. apart (cc)) (λ n p s e. omega (arith, s))
+  c_legal_exactly = c_claim_exactly mode tasks jobs horizon bytes claims.Legal (λ n p s e. omega (arith, s))
 
   pub c_not_legal_exactly : (t : ℕ) → claim_result mode tasks jobs horizon bytes ≡ 65536 + t
       ↔ (outcome_said (check_bytes mode tasks jobs horizon (length bytes)) ≡ done) × (claim_said (claim_answer (given_bytes mode tasks jobs) horizon (numbers_in 2 bytes)) ≡ not_legal t)
   unfolding packed_claim claim_said
-  c_not_legal_exactly t = c_claim_exactly mode tasks jobs horizon bytes (claims.NotLegal t) (λ n p e. apart (cc)) (λ n p s e. omega (arith, s))
+  c_not_legal_exactly t = c_claim_exactly mode tasks jobs horizon bytes (claims.NotLegal t) (λ n p s e. omega (arith, s))
 
   pub c_run_is_legal : run_result mode tasks jobs horizon bytes ≡ 0 → claim_result mode tasks jobs horizon (run_bytes mode tasks jobs horizon bytes) ≡ 0
-  unfolding run_bytes claim_result packed_claim
+  unfolding run_bytes claim_result packed_answer packed_claim
   c_run_is_legal e =
       let w = run_passed mode tasks jobs horizon bytes e in
       let g = given_bytes mode tasks jobs in
@@ -665,13 +666,13 @@ module _ (mode : ℕ) (tasks jobs : List ℕ) (horizon : ℕ) (bytes : List ℕ)
       rw (
         unless_done (λ number place. bytes) (bytes_of 2 es) _ w.checked,
         long,
-        unless_done claims.Refused (claim g (numbers_in 2 (bytes_of 2 es))) _ w.checked,
+        unless_done Refused (Ok (claim g (numbers_in 2 (bytes_of 2 es)))) _ w.checked,
         numbers_back 2 es (omega arith),
         (whole_legal g es).1 (our_run_legal g a.lists Stay horizon a.bounded),
       )
 
   -- For mode 0 or 1 and whole byte counts both results are the answers of the run and of the claim check on the numbers that the bytes spell,
-  -- packed into one number (`packed_outcome`, `packed_claim`), refusals too.
+  -- packed into one number (`packed_outcome`, `packed_answer`), refusals too.
   module _ (known : mode ≤ 1) (whole_tasks : length tasks % 4 ≡ 0) (whole_jobs : length jobs % 4 ≡ 0) (whole-entries : length bytes % 2 ≡ 0) where
     same_checks : check_bytes mode tasks jobs horizon (length bytes) ≡ check_schedule (given_bytes mode tasks jobs).lists horizon (length (numbers_in 2 bytes))
     same_checks = rw (length_numbers 2) (bytes_checked mode tasks jobs horizon (length bytes) known whole_tasks whole_jobs whole-entries)
@@ -680,6 +681,6 @@ module _ (mode : ℕ) (tasks jobs : List ℕ) (horizon : ℕ) (bytes : List ℕ)
     unfolding run_result
     c_run_is_run = ap packed_outcome (same_checks ∙ sym (run_outcome (given_bytes mode tasks jobs) Stay horizon (numbers_in 2 bytes)))
 
-    pub c_claim_is_claim : claim_result mode tasks jobs horizon bytes ≡ packed_claim (claim_answer (given_bytes mode tasks jobs) horizon (numbers_in 2 bytes))
+    pub c_claim_is_claim : claim_result mode tasks jobs horizon bytes ≡ packed_answer (claim_answer (given_bytes mode tasks jobs) horizon (numbers_in 2 bytes))
     unfolding claim_result claim_answer
-    c_claim_is_claim = ap (λ (o : Outcome). packed_claim (unless o claims.Refused (claim (given_bytes mode tasks jobs) (numbers_in 2 bytes)))) same_checks
+    c_claim_is_claim = ap (λ (o : Outcome). packed_answer (unless o Refused (Ok (claim (given_bytes mode tasks jobs) (numbers_in 2 bytes))))) same_checks

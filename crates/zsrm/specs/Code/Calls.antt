@@ -1,9 +1,9 @@
 -- What a call from C has read before its first tick, what it sees of a tick by what it carries, and what it makes of a stretch. No contract
 -- that callers see cites it; the laws in proofs/Laws/Calls join it to the record and its leaps.
-use Rattle.std.specs.Prelude.{ℕ, ◌+◌, ◌-◌, Bool, cond, not, List, ◌≡◌, ltb, eqb, get_or, set}
+use Rattle.std.specs.Prelude.{ℕ, ◌+◌, ◌-◌, Bool, cond, not, List, ◌≡◌, ltb, eqb, get_or, min, set}
 use Rattle.bits.specs.Below.{some}
 use Rattle.bits.specs.Word.{without, with_bit}
-use Rattle.tables.specs.declared.answers.Outcome.{Outcome}
+use Rattle.tables.specs.Outcomes.{Done}
 use Rattle.tables.specs.Refusals.{check_lists}
 use Rattle.tables.specs.Tables.{job_count}
 use Rattle.zsrm.specs.declared.compact.Going.{Going}
@@ -14,7 +14,7 @@ use Rattle.zsrm.specs.Code.Masks.{ended_of, held_by, Masks, Tasks}
 
 -- lists that passed their checks, their jobs' numbers, words and count, and the mode
 pub record Call (x : Given) (g masks : List ℕ) (n : ℕ) (se : Bool) : Type 0 where
-  pub ok : check_lists x.lists ≡ Outcome.Done
+  pub ok : check_lists x.lists ≡ Done
   pub times : Times x.lists g
   pub tasks : Tasks x.lists g
   pub masked : Masks x.lists masks
@@ -30,7 +30,7 @@ eligible_of masks g s = without s.alive (held_by masks g (past_of s))
 
 -- how far from t on nothing happens but to the entry: to the next zero-slack instant carried, or the last of the ticks, or the next arrival
 unfoldable pub most_of : Going → ℕ → ℕ → ℕ
-most_of s t ticks = cond (ltb s.soon ticks) s.soon ticks - t
+most_of s t ticks = min s.soon ticks - t
 
 unfoldable pub reach_of : List ℕ → ℕ → Going → ℕ → ℕ → ℕ
 reach_of g n s t ticks = arrival_gap g n s.came t (most_of s t ticks)

@@ -1,7 +1,7 @@
 -- What a call carries from tick to tick instead of a record: the word of the jobs alive, a word of jobs whose zero-slack instant may lie
 -- ahead, how many jobs came, the next zero-slack instant, and the ticks done. No contract that callers see cites it; the laws in
 -- proofs/Laws/Compact join it to the record.
-use Rattle.std.specs.Prelude.{ℕ, ◌+◌, ◌≤◌, ◌<◌, Bool, false, true, not, ◌&&◌, ◌||◌, cond, List, ◌⊎◌, ◌≡◌, ltb, eqb, get_or}
+use Rattle.std.specs.Prelude.{ℕ, ◌+◌, ◌≤◌, ◌<◌, Bool, false, true, not, ◌&&◌, ◌||◌, cond, List, ◌⊎◌, ◌≡◌, ltb, eqb, get_or, min}
 use Rattle.bits.specs.Below.{bit}
 use Rattle.bits.specs.Word.{with_bit}
 use Rattle.zsrm.specs.declared.compact.Going.{Going}
@@ -64,5 +64,5 @@ counted_in g s =
       alive = cond (ltb 0 (execution_in g s.came)) (with_bit s.alive s.came) s.alive;
       early = with_bit s.early s.came;
       came = s.came + 1;
-      soon = cond (ltb (slack_in g s.came) s.soon) (slack_in g s.came) s.soon;
+      soon = min (slack_in g s.came) s.soon;
     }

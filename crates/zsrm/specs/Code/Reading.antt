@@ -1,7 +1,7 @@
 -- What a call from C reads of its lists, each task and each job once: six numbers of a task, five of a job, and the jobs of each task as a
 -- word. No contract that callers see cites it; the laws in proofs/Laws/Reading join it to the lists and their checks.
 use Rattle.std.specs.Prelude.{ℕ, ◌+◌, ◌*◌, ◌≤◌, ◌<◌, not, ◌||◌, List, [], ◌∷◌, ◌≡◌, eqb, ltb, length, get_or}
-use Rattle.tables.specs.declared.answers.Outcome.{Outcome}
+use Rattle.tables.specs.Outcomes.{Outcome}
 use Rattle.tables.specs.declared.fields.Job.{Job}
 use Rattle.tables.specs.declared.fields.Task.{Task}
 use Rattle.tables.specs.Refusals.{refuse, before}
@@ -23,7 +23,6 @@ pub record TaskFits (task : Task) : Type 0 where
 
 -- the list holds the numbers of the tasks
 pub record Tasked (tasks of : List ℕ) : Type 0 where
-  pub size : length of ≡ 96
   pub periods : (k : ℕ) → k < task_count tasks → get_or of (6 * k) 0 ≡ period tasks k
   pub overloads : (k : ℕ) → k < task_count tasks → get_or of (6 * k + 1) 0 ≡ overload tasks k
   pub nominals : (k : ℕ) → k < task_count tasks → get_or of (6 * k + 2) 0 ≡ nominal tasks k

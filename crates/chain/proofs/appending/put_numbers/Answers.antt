@@ -6,7 +6,7 @@ use Rattle.tables.proofs.Laws.Bytes.{put_all, put_more, put_none}
 use Rattle.chain.proofs.appending.put_numbers.Goals as goal
 
 pub loop-i-init : goal.loop-i-init
-loop-i-init c = let a = c.args in (omega arith, put_none 4 a.file.now a.numbers.now a.at)
+loop-i-init c = put_none 4 c.args.file.now c.args.numbers.now c.args.at
 
 pub overflow_mul-i : goal.overflow_mul-i
 overflow_mul-i c = omega (arith, c.requires)
@@ -17,19 +17,11 @@ overflow_add-at c = omega (arith, c.requires)
 pub offset_bounds-numbers-i : goal.offset_bounds-numbers-i
 offset_bounds-numbers-i c = omega (arith, c.requires)
 
-pub overflow_add-i : goal.overflow_add-i
-overflow_add-i c = omega (arith, c.loop-i-test.true)
-
-pub loop-i-smaller : goal.loop-i-smaller
-loop-i-smaller c = omega (arith, c.loop-i-test.true)
-
 pub loop-i-preserved : goal.loop-i-preserved
 loop-i-preserved c =
     let a = c.args in
-    let next = c.loop-i-test.true in (
-      omega (arith, next),
-      put_more 4 a.file.now a.numbers.now a.at c.loop-i.i next (omega (arith, c.requires, next)) c.loop-i.invariant.1 c.put_at.ensures,
-    )
+    let next = c.loop-i-test.true in
+    put_more 4 a.file.now a.numbers.now a.at c.loop-i.i next (omega (arith, c.requires, next)) c.loop-i.invariant c.put_at.ensures
 
 pub overflow_mul-result : goal.overflow_mul-result
 overflow_mul-result c = omega (arith, c.requires)
@@ -40,9 +32,9 @@ overflow_add-result c = omega (arith, c.requires)
 pub shape_of-file : goal.shape_of-file
 shape_of-file c =
     let a = c.args in
-    sets_length a.file.now (bytes_of 4 (take c.loop-i.i a.numbers.now)) a.at c.loop-i.invariant.1
+    sets_length a.file.now (bytes_of 4 (take c.loop-i.i a.numbers.now)) a.at c.loop-i.invariant
 
 pub returns : goal.returns
 returns c =
     let a = c.args in
-    record { writes = put_all 4 a.file.now a.numbers.now a.at c.loop-i.i (omega arith) c.loop-i.invariant.1; ends = omega (arith, c.loop-i.invariant.0) }
+    record { writes = put_all 4 a.file.now a.numbers.now a.at c.loop-i.i (omega arith) c.loop-i.invariant; ends = omega arith }

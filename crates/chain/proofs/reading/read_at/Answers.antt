@@ -9,16 +9,16 @@ use Rattle.chain.proofs.reading.read_at.Goals as goal
 pub trailer_at-requires : goal.trailer_at-requires
 trailer_at-requires c =
     let a = c.args in
-    let w = trailer_whole a.reader a.file.now a.used a.at (sym c.check_trailer-found.ensures ∙ c.in-Done.is) in
+    let w = trailer_whole a.reader a.file.now a.used a.at (sym c.check_trailer.ensures ∙ c.in-Ok.is) in
     omega (arith, w.fits, w.ends)
 
-pub returns-in-Done : goal.returns-in-Done
-returns-in-Done c =
+pub returns-in-Ok : goal.returns-in-Ok
+returns-in-Ok c =
     let a = c.args in
     c.read_trailer.ensures ∙ ap (read_trailer a.reader a.file.now) c.trailer_at.ensures
-    ∙ sym (read_trailer_law a.reader a.file.now a.used a.at _ c.check_trailer-found.ensures c.in-Done.is)
+    ∙ sym (read_trailer_law a.reader a.file.now a.used a.at _ c.check_trailer.ensures c.in-Ok.is)
 
-pub returns-in-Refused : goal.returns-in-Refused
-returns-in-Refused c =
+pub returns-in-Err : goal.returns-in-Err
+returns-in-Err c =
     let a = c.args in
-    c.nothing.ensures ∙ sym (read_nothing a.reader a.file.now a.used a.at _ c.check_trailer-found.ensures _ _ c.in-Refused.is)
+    c.nothing.ensures ∙ sym (read_nothing a.reader a.file.now a.used a.at _ c.check_trailer.ensures _ _ c.in-Err.is)

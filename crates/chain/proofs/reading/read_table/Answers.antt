@@ -31,15 +31,15 @@ slice_bounds-fields-end c =
 pub slice_bounds-check_table-end : goal.slice_bounds-check_table-end
 slice_bounds-check_table-end c = sym (length-take-le _ _ (let a = c.args in omega (arith, ap length c.decode-fields.ensures ∙ length_padded 128 (numbers_from a.file.now a.trailer.start c.numbers_of-n.result), c.numbers_of-n.ensures.most, c.if-count-gt16.false)))
 
-pub returns-in-Done : goal.returns-in-Done
-returns-in-Done c =
+pub returns-in-Ok : goal.returns-in-Ok
+returns-in-Ok c =
     let a = c.args in
     fields_shown a.layout a.file.now a.trailer _ _ c.numbers_of-n.ensures.is
-    (omega (arith, c.numbers_of-n.ensures.most, c.if-count-gt16.false)) c.decode-fields.ensures _ c.check_table-found.ensures c.in-Done.is
+    (omega (arith, c.numbers_of-n.ensures.most, c.if-count-gt16.false)) c.decode-fields.ensures _ c.check_table.ensures c.in-Ok.is
 
-pub returns-in-Refused : goal.returns-in-Refused
-returns-in-Refused c =
+pub returns-in-Err : goal.returns-in-Err
+returns-in-Err c =
     let a = c.args in
-    c.passed_by-in-Refused.ensures
+    c.passed_by-in-Err.ensures
     ∙ table_passed a.layout a.file.now a.trailer _ _ c.numbers_of-n.ensures.is
-    (omega (arith, c.numbers_of-n.ensures.most, c.if-count-gt16.false)) c.decode-fields.ensures _ _ _ c.check_table-found.ensures c.in-Refused.is
+    (omega (arith, c.numbers_of-n.ensures.most, c.if-count-gt16.false)) c.decode-fields.ensures _ _ _ c.check_table.ensures c.in-Err.is

@@ -1,11 +1,7 @@
 -- The first i numbers are laid; number i is that of task i / 7, of eight numbers, at place i % 7.
-use Prim.Native.Nat.{◌-◌}
 use Rattle.chain.specs.Table.{unlabelled}
 use Rattle.chain.proofs.Laws.Table.{Laid}
 use Rattle.chain.proofs.table.unlabelled.Given as goal
 
 abbrev pub invariant-loop-i : goal.invariant-loop-i
 invariant-loop-i l = Laid 112 (unlabelled l.table) l.out l.i
-
-abbrev pub decreases-loop-i : goal.decreases-loop-i
-decreases-loop-i l = l.n - l.i

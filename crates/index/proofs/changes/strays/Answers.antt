@@ -12,17 +12,17 @@ use Rattle.index.proofs.changes.strays.Goals as goal
 pub returns-then-old-new : goal.returns-then-old-new
 returns-then-old-new c =
     let a = c.args in
-    sym (strays_same a.tasks.now a.horizon a.index.now a.tick a.old a.new c.if-old-new.true)
+    sym (strays_same a.given.tasks.now a.given.horizon a.index.now a.tick a.old a.new c.if-old-new.true)
 
 pub loop-r-init : goal.loop-r-init
 loop-r-init c =
     let a = c.args in
-    (c.first_past-r.ensures.0, strays_none a.tasks.now a.horizon a.index.now a.tick a.old a.new c.first_past-r.result c.first_past-r.ensures.1)
+    (c.first_past-r.ensures.0, strays_none a.given.tasks.now a.given.horizon a.index.now a.tick a.old a.new c.first_past-r.result c.first_past-r.ensures.1)
 
 pub row_at-at-requires : goal.row_at-at-requires
 row_at-at-requires c =
     let size = c.requires.sized in
-    (size.few, omega (arith, size.short, c.loop-r-test.true, c.row_count-end.ensures))
+    (size.few, omega (arith, size.short, c.loop-r-test.true, c.row_count-r-end.ensures))
 
 pub overflow_add-at : goal.overflow_add-at
 overflow_add-at c = omega (arith, c.requires)
@@ -31,7 +31,9 @@ pub offset_bounds-index-at : goal.offset_bounds-index-at
 offset_bounds-index-at c = omega (arith, c.requires)
 
 pub bounds-index-at : goal.bounds-index-at
-bounds-index-at c = (let lemma_within : (k : ℕ) → k ≤ task_count c.args.tasks.now → c.row_at-at.result + k < length c.args.index.now = λ k few. let a = c.args in let there : c.loop-r.r < row_count a.horizon = omega (arith, c.loop-r-test.true, c.row_count-end.ensures) in omega (arith, place_within (row_width a.tasks.now) (row_count a.horizon) c.loop-r.r k there (omega arith), c.requires.sized.indexed, c.row_at-at.ensures.is) in lemma_within) _ c.requires.bound.0
+bounds-index-at c =
+    let a = c.args in
+    omega (arith, place_within (row_width a.given.tasks.now) (row_count a.given.horizon) c.loop-r.r a.old (omega (arith, c.row_count-r-end.ensures)) (omega (arith, c.requires.bound.0)), c.requires.sized.indexed, c.row_at-at.ensures.is)
 
 pub overflow_add-at-in-loop-r : goal.overflow_add-at-in-loop-r
 overflow_add-at-in-loop-r c = omega (arith, c.requires)
@@ -40,26 +42,22 @@ pub offset_bounds-index-at-in-loop-r : goal.offset_bounds-index-at-in-loop-r
 offset_bounds-index-at-in-loop-r c = omega (arith, c.requires)
 
 pub bounds-index-at-in-loop-r : goal.bounds-index-at-in-loop-r
-bounds-index-at-in-loop-r c = (let lemma_within : (k : ℕ) → k ≤ task_count c.args.tasks.now → c.row_at-at.result + k < length c.args.index.now = λ k few. let a = c.args in let there : c.loop-r.r < row_count a.horizon = omega (arith, c.loop-r-test.true, c.row_count-end.ensures) in omega (arith, place_within (row_width a.tasks.now) (row_count a.horizon) c.loop-r.r k there (omega arith), c.requires.sized.indexed, c.row_at-at.ensures.is) in lemma_within) _ c.requires.bound.1
+bounds-index-at-in-loop-r c =
+    let a = c.args in
+    omega (arith, place_within (row_width a.given.tasks.now) (row_count a.given.horizon) c.loop-r.r a.new (omega (arith, c.row_count-r-end.ensures)) (omega (arith, c.requires.bound.1)), c.requires.sized.indexed, c.row_at-at.ensures.is)
 
 pub returns-then-leaves : goal.returns-then-leaves
 unfolding index_number
 returns-then-leaves c =
-    let there : c.loop-r.r < row_count c.args.horizon = omega (arith, c.loop-r-test.true, c.row_count-end.ensures) in
-    sym (strays_found _ _ _ _ _ _ c.if-old-new.false c.loop-r.r there c.loop-r.invariant.0 (sym ((let lemma_looked : let a = c.args in c.leaves.result ≡ leaves a.horizon (index_number a.tasks.now a.index.now c.loop-r.r a.old) (index_number a.tasks.now a.index.now c.loop-r.r a.new) = let a = c.args in c.leaves.ensures ∙ ap (λ (p : ℕ). leaves a.horizon (get_or a.index.now (p + a.old) 0) (get_or a.index.now (p + a.new) 0)) c.row_at-at.ensures.is in lemma_looked)) ∙ c.if-leaves.true))
-
-pub overflow_add-r : goal.overflow_add-r
-overflow_add-r c = omega (arith, c.loop-r-test.true)
-
-pub loop-r-smaller : goal.loop-r-smaller
-loop-r-smaller c = omega (arith, c.loop-r-test.true)
+    let there : c.loop-r.r < row_count c.args.given.horizon = omega (arith, c.loop-r-test.true, c.row_count-r-end.ensures) in
+    sym (strays_found _ _ _ _ _ _ c.if-old-new.false c.loop-r.r there c.loop-r.invariant.0 (sym ((c.leaves.ensures ∙ ap (λ (p : ℕ). leaves c.args.given.horizon (get_or c.args.index.now (p + c.args.old) 0) (get_or c.args.index.now (p + c.args.new) 0)) c.row_at-at.ensures.is)) ∙ c.if-leaves.true))
 
 pub loop-r-preserved : goal.loop-r-preserved
 unfolding index_number
-loop-r-preserved c = (omega (arith, c.loop-r.invariant.0), strays_more _ _ _ _ _ _ c.loop-r.r c.loop-r.invariant.1 (sym ((let lemma_looked : let a = c.args in c.leaves.result ≡ leaves a.horizon (index_number a.tasks.now a.index.now c.loop-r.r a.old) (index_number a.tasks.now a.index.now c.loop-r.r a.new) = let a = c.args in c.leaves.ensures ∙ ap (λ (p : ℕ). leaves a.horizon (get_or a.index.now (p + a.old) 0) (get_or a.index.now (p + a.new) 0)) c.row_at-at.ensures.is in lemma_looked)) ∙ c.if-leaves.false))
+loop-r-preserved c = (omega (arith, c.loop-r.invariant.0), strays_more _ _ _ _ _ _ c.loop-r.r c.loop-r.invariant.1 (sym ((c.leaves.ensures ∙ ap (λ (p : ℕ). leaves c.args.given.horizon (get_or c.args.index.now (p + c.args.old) 0) (get_or c.args.index.now (p + c.args.new) 0)) c.row_at-at.ensures.is)) ∙ c.if-leaves.false))
 
 pub returns : goal.returns
 returns c =
     let a = c.args in
-    let all : row_count a.horizon ≤ c.loop-r.r = omega (arith, c.loop-r-test.false, c.row_count-end.ensures) in
-    sym (strays_end a.tasks.now a.horizon a.index.now a.tick a.old a.new c.loop-r.r all c.loop-r.invariant.1)
+    let all : row_count a.given.horizon ≤ c.loop-r.r = omega (arith, c.loop-r-test.false, c.row_count-r-end.ensures) in
+    sym (strays_end a.given.tasks.now a.given.horizon a.index.now a.tick a.old a.new c.loop-r.r all c.loop-r.invariant.1)

@@ -21,5 +21,5 @@ end_at-second-requires c =
 pub returns : goal.returns
 returns c =
     let a = c.args in
-    c.difference.ensures ∙ ap₂ (difference a.horizon) c.end_at-first.ensures c.end_at-second.ensures
+    c.difference.ensures ∙ ap₂ (difference a.given.horizon) c.end_at-first.ensures c.end_at-second.ensures
     ∙ between_ends _ a.schedule.now a.index.now a.task a.a a.b c.requires

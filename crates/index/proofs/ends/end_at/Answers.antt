@@ -1,32 +1,36 @@
 -- The row's number and what the part's entries come to; the sum is in 64 bits.
 use Prim.Native.Nat.{ℕ, ◌+◌, ◌*◌}
-use mathlib.Core.Bool.{Bool}
-use mathlib.Core.Path.{ap, ap₂}
+use mathlib.Core.Path.{ap, sym, ◌∙◌}
 use native.Mathlib.Omega.{arith}
 use lib.ListN.{get_or}
 use Rattle.tables.specs.Tables.{lists}
-use Rattle.index.specs.declared.counts.Tally.{Tally}
+use Rattle.index.specs.Code.{tally_from}
 use Rattle.index.specs.Counts.{entries_between}
 use Rattle.index.specs.Rows.{index_number}
-use Rattle.index.proofs.Laws.Counts.{ticks_between_most}
+use Rattle.index.proofs.Laws.Counts.{tally_all, tally_none, tally_some, ticks_between_most}
 use Rattle.index.proofs.ends.end_at.Goals as goal
 
-pub overflow_cast-result : goal.overflow_cast-result
-overflow_cast-result c =
-    let a = c.args in
-    omega (arith, c.type_inv.index (c.row_at.result + a.c))
-
-pub overflow_add-result : goal.overflow_add-result
+pub overflow_add-result-2 : goal.overflow_add-result-2
 unfolding entries_between
-overflow_add-result c =
+overflow_add-result-2 c =
     let a = c.args in
-    let most = ticks_between_most (lists a.tasks.now a.jobs.now) a.c a.schedule.now (a.row * 64) a.t in
-    omega (arith, c.type_inv.index (c.row_at.result + a.c), ap (λ (x : Tally). x.ticks) c.ticks_of-since.ensures, c.requires.row_bound)
+    let l = lists a.given.tasks.now a.given.jobs.now in
+    let some = tally_some l a.c (entries_between (a.row * 64) a.t a.schedule.now) c.in_ok-since.since (sym c.ticks_of.ensures ∙ c.in_ok-since.was) in
+    omega (arith, ticks_between_most l a.c a.schedule.now (a.row * 64) a.t, c.type_inv.index (c.row_at.result + a.c), some, c.requires.row_bound)
+
+pub returns-in_err-since : goal.returns-in_err-since
+unfolding tally_from entries_between
+returns-in_err-since c =
+    let a = c.args in
+    let none = tally_none (lists a.given.tasks.now a.given.jobs.now) a.c (entries_between (a.row * 64) a.t a.schedule.now) (sym c.ticks_of.ensures ∙ c.in_err-since.was) in
+    rw none c.from_residual.ensures
 
 pub returns : goal.returns
-unfolding index_number entries_between
+unfolding tally_from index_number entries_between
 returns c =
     let a = c.args in
-    ap₂ (λ (n : ℕ) (b : Bool). record { ticks = n; known = b })
-    (ap₂ (λ (m n : ℕ). m + n) (ap (λ (p : ℕ). get_or a.index.now (p + a.c) 0) c.row_at.ensures.is) (ap (λ (x : Tally). x.ticks) c.ticks_of-since.ensures))
-    (ap (λ (x : Tally). x.known) c.ticks_of-since.ensures)
+    let l = lists a.given.tasks.now a.given.jobs.now in
+    let read = entries_between (a.row * 64) a.t a.schedule.now in
+    let was = sym c.ticks_of.ensures ∙ c.in_ok-since.was in
+    let there = ap (λ (p : ℕ). get_or a.index.now (p + a.c) 0) c.row_at.ensures.is in
+    rw (tally_all l a.c read c.in_ok-since.since was, tally_some l a.c read c.in_ok-since.since was, there)

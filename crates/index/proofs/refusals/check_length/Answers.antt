@@ -12,5 +12,5 @@ pub returns : goal.returns
 unfolding check_length
 returns c =
     let a = c.args in
-    let whole = c.row_at-whole.ensures.is ∙ ap (λ (n : ℕ). n * row_width a.tasks.now) c.row_count.ensures in
+    let whole = c.row_at-whole.ensures.is ∙ ap (λ (n : ℕ). n * row_width a.given.tasks.now) c.row_count.ensures in
     c.refuse.ensures ∙ ap (λ (n : ℕ). refuse (not (eqb a.numbers n)) 16 0) whole

@@ -1,54 +1,38 @@
-use Prim.Native.Nat.{ℕ, ◌+◌, ◌/◌}
-use mathlib.Core.List.{List}
-use mathlib.Core.Path.{ap, ap₂, refl, sym, ◌∙◌, ◌≡◌}
-use native.Mathlib.Numerals.{add-one}
+-- The row ends within the index, and its numbers are the first of the counts.
+use Prim.Native.Nat.{ℕ, ◌+◌}
+use mathlib.Core.List.{List, ◌++◌}
+use mathlib.Core.Path.{ap, ◌∙◌}
 use native.Mathlib.Omega.{arith}
-use lib.ListN.{get_or, length, length-set, set}
-use lib.Seq.{paste, paste-suc, paste-zero}
+use lib.ListN.{drop, length-drop, length-take, take}
+use lib.Seq.{paste}
+use Rattle.std.proofs.Common.{take-take}
+use Rattle.std.proofs.lemmas.Slice.{put_mid-paste}
 use Rattle.tables.specs.Tables.{task_count}
+use Rattle.index.specs.Rows.{row_width}
 use Rattle.index.proofs.rows.put_row.Goals as goal
 
-pub loop-c-init : goal.loop-c-init
+pub slice_bounds-copy_from_slice-end : goal.slice_bounds-copy_from_slice-end
 unfolding task_count
-loop-c-init c = (omega arith, refl, paste-zero c.args.index.now c.row_at-at.result c.args.counts)
+slice_bounds-copy_from_slice-end c = omega (arith, c.row_at-at.ensures.is, c.requires.tasks_in_bounds)
 
-pub offset_bounds-index-at : goal.offset_bounds-index-at
+pub slice_bounds-counts-end : goal.slice_bounds-counts-end
 unfolding task_count
-offset_bounds-index-at c = omega (arith, c.loop-c.invariant.1, c.row_at-at.ensures.is, c.requires.tasks_in_bounds)
+slice_bounds-counts-end c = omega (arith, c.requires.tasks_bound)
 
--- the row ends within the index
-pub bounds-index-at : goal.bounds-index-at
+pub slice_bounds-copy_from_slice-end-2 : goal.slice_bounds-copy_from_slice-end-2
 unfolding task_count
-bounds-index-at c = omega (arith, c.loop-c.invariant.1, c.row_at-at.ensures.is, c.requires.tasks_in_bounds)
+slice_bounds-copy_from_slice-end-2 c = simp length-take (omega (arith, c.requires.tasks_bound))
 
-pub loop-c-smaller : goal.loop-c-smaller
+pub copy_from_slice-requires : goal.copy_from_slice-requires
 unfolding task_count
-loop-c-smaller c = omega arith
-
-pub loop-c-preserved : goal.loop-c-preserved
-unfolding task_count
-loop-c-preserved c =
-    let a = c.args in
-    let begins = c.row_at-at.result in
-    let k = c.loop-c.c in (
-      omega arith,
-      length-set c.loop-c.index (begins + k) _ ∙ c.loop-c.invariant.1,
-      ap (λ (x : List ℕ). set x (begins + k) (get_or a.counts k 0)) c.loop-c.invariant.2
-          ∙ paste-suc a.index.now begins a.counts k 0 (omega (arith, c.loop-c.invariant.1, c.row_at-at.ensures.is, c.requires.tasks_in_bounds)) (omega arith)
-          ∙ ap (paste a.index.now begins a.counts) (sym (add-one k)),
-    )
-
-pub shape_of-index : goal.shape_of-index
-unfolding task_count
-shape_of-index c = c.loop-c.invariant.1
+copy_from_slice-requires c = simp (length-take, length-drop) (omega (arith, c.row_at-at.ensures.is, c.requires.tasks_in_bounds, c.requires.tasks_bound))
 
 pub returns : goal.returns
 unfolding task_count
 returns c =
     let a = c.args in
-    let last : c.loop-c.c ≡ length a.tasks.now / 7 + 1 = omega arith in
-    c.loop-c.invariant.2 ∙ ap₂ (λ (n m : ℕ). paste a.index.now n a.counts m) c.row_at-at.ensures.is last
-
-pub bounds-counts-c : goal.bounds-counts-c
-unfolding task_count
-bounds-counts-c c = omega (arith, c.requires.tasks_bound, c.loop-c-test.true)
+    let w = row_width a.given.tasks.now in
+    let at = c.row_at-at.result in
+    put_mid-paste at _ a.index.now c.copy_from_slice.new.self (take w a.counts) w c.copy_from_slice.ensures.after (omega arith) (simp length-take (omega (arith, c.requires.tasks_bound)))
+    ∙ ap (λ (l : List ℕ). (take at a.index.now ++ l) ++ drop (at + w) a.index.now) (take-take w w a.counts (omega arith))
+    ∙ ap (λ (n : ℕ). paste a.index.now n a.counts w) c.row_at-at.ensures.is

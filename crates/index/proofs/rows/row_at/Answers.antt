@@ -8,8 +8,8 @@ use Rattle.index.proofs.rows.row_at.Goals as goal
 
 pub overflow_mul-result : goal.overflow_mul-result
 unfolding task_count
-overflow_mul-result c = omega (arith, row_small (row_width c.args.tasks.now) c.args.r (omega arith) (omega arith))
+overflow_mul-result c = omega (arith, row_small (row_width c.args.given.tasks.now) c.args.r (omega arith) (omega arith))
 
 pub returns : goal.returns
 unfolding task_count
-returns c = record { is = refl; small = row_small (row_width c.args.tasks.now) c.args.r (omega arith) (omega arith) }
+returns c = record { is = refl; small = row_small (row_width c.args.given.tasks.now) c.args.r (omega arith) (omega arith) }

@@ -1,5 +1,5 @@
 -- The invariant: the rows before row r are written, and the counts are those of the entries before its multiple.
-use Prim.Native.Nat.{◌-◌, ◌*◌, ◌≤◌}
+use Prim.Native.Nat.{◌*◌}
 use mathlib.Core.List.{◌++◌}
 use mathlib.Core.Path.{◌≡◌}
 use lib.ListN.{drop, length, take}
@@ -11,9 +11,6 @@ use Rattle.index.proofs.rows.write_rows.Given as goal
 
 abbrev pub invariant-loop-r : goal.invariant-loop-r
 invariant-loop-r l =
-    (l.r ≤ l.last) × (length l.index ≡ length l.initial.index)
-    × (l.index ≡ row_by_row (row_width l.tasks) l.r (row_number (plan l.tasks l.jobs l.horizon) l.schedule) ++ drop (l.r * row_width l.tasks) l.initial.index)
-    × (l.counts ≡ counts_of (lists l.tasks l.jobs) (take (l.r * 64) l.schedule))
-
-abbrev pub decreases-loop-r : goal.decreases-loop-r
-decreases-loop-r l = l.last - l.r
+    (length l.index ≡ length l.initial.index)
+    × (l.index ≡ row_by_row (row_width l.given.tasks.now) l.r (row_number (plan l.given.tasks.now l.given.jobs.now l.given.horizon) l.schedule) ++ drop (l.r * row_width l.given.tasks.now) l.initial.index)
+    × (l.counts ≡ counts_of (lists l.given.tasks.now l.given.jobs.now) (take (l.r * 64) l.schedule))

@@ -1,36 +1,17 @@
-use mathlib.Core.Path.{refl, ◌∙◌}
+-- The caller's list in front, and the offered job behind it.
+use mathlib.Core.List.{◌++◌}
+use mathlib.Core.Path.{ap, ap₂, ◌∙◌}
 use native.Mathlib.Omega.{arith}
-use lib.ListN.{length-set}
-use borrow.Author.Rules.{rules}
-use Rattle.bits.proofs.Laws.Lists.{copied_more}
-use Rattle.planter.proofs.Laws.Appended.{appended_made}
+use lib.ListN.{length, length-append}
+use lib.Seq.{take_at}
+use Rattle.std.proofs.lemmas.Slice.{take-put_mid}
+use Rattle.planter.specs.Admission.{appended}
 use Rattle.planter.proofs.admission.append_job.Goals as goal
 
-pub loop-i-init : goal.loop-i-init
-loop-i-init c = (omega arith, refl, refl)
-
-pub bounds-out-i : goal.bounds-out-i
-bounds-out-i c = omega (arith, c.requires)
-
-pub loop-i-preserved : goal.loop-i-preserved
-loop-i-preserved c =
-    let here = c.loop-i.invariant in (
-      omega arith,
-      length-set c.loop-i.out c.loop-i.i _ ∙ here.1,
-      copied_more c.args.jobs.now c.loop-i.out c.loop-i.i _ (omega (arith, here.1, c.requires)) (omega arith) here.2 refl,
-    )
-
-pub bounds-out-at : goal.bounds-out-at
-bounds-out-at c = omega (arith, c.requires)
-
-pub bounds-out-at-2 : goal.bounds-out-at-2
-bounds-out-at-2 c = omega (arith, c.requires)
-
-pub bounds-out-at-3 : goal.bounds-out-at-3
-bounds-out-at-3 c = omega (arith, c.requires)
-
-pub returns : goal.returns
-returns c =
-    let a = c.args in
-    let here = c.loop-i.invariant in
-    record { long = search rules; holds = appended_made a.jobs.now c.loop-i.out c.loop-i.i a.task a.arrival a.execution here.1 (omega (arith, c.requires)) (omega (arith, here.0)) here.2 }
+pub returns-clause-holds : goal.returns-clause-holds
+unfolding appended
+returns-clause-holds c =
+    let first = c.copy_from_slice.ensures.after in
+    let second = c.copy_from_slice-2.ensures.after in
+    take-put_mid (length c.args.jobs.now) _ _ _ _ (omega (arith, ap length second)) (simp length-append (omega (arith, ap length first)))
+    ∙ ap₂ (◌++◌) (take_at _ _ _ (omega (arith, ap length first)) ∙ first) second

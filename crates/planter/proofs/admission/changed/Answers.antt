@@ -1,6 +1,5 @@
 use mathlib.Core.Path.{refl}
 use native.Mathlib.Omega.{arith}
-use borrow.Author.Rules.{rules}
 use Rattle.bits.proofs.Laws.Arrays.{written_more, written_none}
 use Rattle.planter.specs.Admission.{blank_change}
 use Rattle.planter.specs.Answers.{refused_admission}
@@ -10,19 +9,15 @@ use Rattle.planter.proofs.admission.changed.Goals as goal
 
 pub loop-j-init : goal.loop-j-init
 unfolding refused_admission
-loop-j-init c = (omega arith, written_none blank_change _ _ 64 (rw c.refused_admission-out.ensures))
-
-pub loop-j-smaller : goal.loop-j-smaller
-unfolding refused_admission
-loop-j-smaller c = search rules
+loop-j-init c = written_none blank_change _ _ 64 (rw c.refused_admission-out.ensures)
 
 pub loop-j-preserved : goal.loop-j-preserved
 unfolding change_of
 loop-j-preserved c =
     let a = c.args in
-    (omega arith, written_more blank_change (change_of a.old a.new) _ c.loop-j.out.changes 64 c.loop-j.j _ c.loop-j.invariant.1 (omega arith) refl)
+    written_more blank_change (change_of a.old a.new) _ c.loop-j.out.changes 64 c.loop-j.j _ c.loop-j.invariant (omega arith) refl
 
 pub returns : goal.returns
 returns c =
     let a = c.args in
-    changes_made blank_change (change_of a.old a.new) _ c.loop-j.out.changes a.count c.loop-j.j c.loop-j.invariant.1 (omega arith)
+    changes_made blank_change (change_of a.old a.new) _ c.loop-j.out.changes a.count c.loop-j.j c.loop-j.invariant (omega arith)

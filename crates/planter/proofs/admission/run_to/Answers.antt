@@ -5,7 +5,7 @@ use Rattle.planter.proofs.Laws.Pieces.{way_ends, way_starts}
 use Rattle.planter.proofs.admission.run_to.Goals as goal
 
 pub loop-rec-init : goal.loop-rec-init
-loop-rec-init c = way_starts (planter c.args.mode c.args.jobs.now) c.args.horizon c.requires c.fresh-started.result c.fresh-started.ensures
+loop-rec-init c = way_starts (planter c.args.mode c.args.jobs.now) c.args.horizon c.requires c.fresh.result c.fresh.ensures
 
 pub run_on-next-requires : goal.run_on-next-requires
 run_on-next-requires c = record { horizon_value = c.requires; on_the_way = (c.loop-rec.invariant, search rules) }

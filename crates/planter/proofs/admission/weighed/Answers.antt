@@ -5,10 +5,10 @@ use Rattle.planter.proofs.admission.weighed.Goals as goal
 
 pub compared-requires : goal.compared-requires
 compared-requires c =
-    let done = sym c.check_run-checked.ensures ∙ c.in-Done.is in
+    let done = sym c.check_run.ensures ∙ c.in-Ok.is in
     record { horizon_value = c.requires done; horizon_value_2 = done }
 
-pub returns-in-Refused : goal.returns-in-Refused
-returns-in-Refused c =
+pub returns-in-Err : goal.returns-in-Err
+returns-in-Err c =
     let a = c.args in
-    admission_refused a.mode a.jobs.now a.longer.now a.horizon _ _ _ (sym c.check_run-checked.ensures ∙ c.in-Refused.is) c.refused_admission.ensures
+    admission_refused a.mode a.jobs.now a.longer.now a.horizon _ _ _ (sym c.check_run.ensures ∙ c.in-Err.is) c.refused_admission.ensures

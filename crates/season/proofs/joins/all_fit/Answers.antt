@@ -1,37 +1,19 @@
-use Prim.Native.Nat.{ℕ}
-use mathlib.Core.Path.{ap, refl, ◌∙◌, ◌≡◌}
+-- The rows are asked one after another, from the first.
+use borrow.Author.Rules.{rules}
+use borrow.Author.Tests.{tests}
+use mathlib.Core.Bool.{false, true}
+use mathlib.Core.Path.{◌≡◌}
 use native.Mathlib.Omega.{arith}
-use Rattle.bits.specs.Below.{every}
-use Rattle.bits.proofs.Laws.Below.{every_on}
+use Rattle.std.proofs.lemmas.Iterator.{YieldsList-from_range, cases_from_all}
 use Rattle.season.specs.Reports.{all_fit, joined_row, row_at, task_rows}
 use Rattle.season.specs.Rows.{fits}
+use Rattle.season.proofs.Laws.Ranges.{every_of}
 use Rattle.season.proofs.joins.all_fit.Goals as goal
 
-pub loop-k-init : goal.loop-k-init
-unfolding every
-loop-k-init c = (omega arith, refl)
-
-pub bounds-a-k : goal.bounds-a-k
-unfolding every
-bounds-a-k c = omega (arith, c.task_rows-n.ensures)
-
-pub bounds-b-k : goal.bounds-b-k
-unfolding every
-bounds-b-k c = omega (arith, c.task_rows-n.ensures)
-
-pub loop-k-smaller : goal.loop-k-smaller
-unfolding every
-loop-k-smaller c = omega (arith, c.task_rows-n.ensures)
-
-pub loop-k-preserved : goal.loop-k-preserved
-unfolding joined_row row_at
-loop-k-preserved c =
-    let a = c.args in
-    (omega (arith, c.task_rows-n.ensures), every_on (λ i. fits (joined_row a.a a.b i)) c.loop-k.k _ _ _ c.loop-k.invariant.1 c.rows_fit-all.ensures refl)
-
 pub returns : goal.returns
-unfolding all_fit
+unfolding all_fit joined_row row_at
 returns c =
     let a = c.args in
-    let last : c.loop-k.k ≡ task_rows a.a.tasks = omega (arith, c.task_rows-n.ensures) in
-    c.loop-k.invariant.1 ∙ ap (λ (m : ℕ). every m (λ i. fits (joined_row a.a a.b i))) last
+    every_of (task_rows a.a.tasks) (λ k. fits (joined_row a.a a.b k)) _
+    (cases_from_all _ _ _ (λ k. fits (joined_row a.a a.b k) ≡ true) (λ k. fits (joined_row a.a a.b k) ≡ false) c.all.ensures.ran
+    (YieldsList-from_range 0 (task_rows a.a.tasks) (task_rows a.a.tasks) (cc) (omega arith)) (λ x q k. search (rules, tests)) (λ x q k. search (rules, tests)))

@@ -1,5 +1,4 @@
 -- The rows below k are joined, and those behind them 0.
-use Prim.Native.Nat.{◌-◌, ◌≤◌}
 use mathlib.Core.Path.{◌≡◌}
 use Rattle.bits.proofs.Laws.Arrays.{Written}
 use Rattle.season.specs.Reports.{joined_row, row_below, task_rows}
@@ -7,7 +6,4 @@ use Rattle.season.specs.Rows.{empty_row}
 use Rattle.season.proofs.joins.join_reports.Given as goal
 
 abbrev pub invariant-loop-k : goal.invariant-loop-k
-invariant-loop-k l = (l.k ≤ task_rows l.a.tasks) × (l.out.tasks ≡ l.a.tasks) × Written empty_row (row_below (task_rows l.a.tasks) (joined_row l.a l.b)) l.initial.out.rows l.out.rows 16 l.k
-
-abbrev pub decreases-loop-k : goal.decreases-loop-k
-decreases-loop-k l = task_rows l.a.tasks - l.k
+invariant-loop-k l = (l.out.tasks ≡ l.a.tasks) × Written empty_row (row_below (task_rows l.a.tasks) (joined_row l.a l.b)) l.initial.out.rows l.out.rows 16 l.k

@@ -14,86 +14,63 @@ overflow_cast-tasks c = omega (arith, judged_run_tasks c.requires)
 
 pub loop-j-init : goal.loop-j-init
 unfolding task_count
-loop-j-init c =
-    let a = c.args in
-    (omega arith, c.empty_report-out.ensures ∙ own_none (lists a.tasks.now a.jobs.now) a.run)
+loop-j-init c = c.empty_report-out.ensures ∙ own_none (lists c.args.tasks.now c.args.jobs.now) c.args.run
 
 pub offset_bounds-all-j : goal.offset_bounds-all-j
-unfolding task_count
-offset_bounds-all-j c = omega (arith, c.loop-j-test.true, c.job_count-n.ensures, judged_run_few c.requires)
+offset_bounds-all-j c = omega (arith, judged_run_few c.requires)
 
 pub bounds-all-j : goal.bounds-all-j
-bounds-all-j c = omega (arith, c.loop-j-test.true, c.job_count-n.ensures, judged_run_few c.requires)
+bounds-all-j c = omega (arith, judged_run_few c.requires)
 
 pub offset_bounds-run-j : goal.offset_bounds-run-j
-unfolding task_count
-offset_bounds-run-j c = omega (arith, c.loop-j-test.true, c.job_count-n.ensures, judged_run_few c.requires)
+offset_bounds-run-j c = omega (arith, judged_run_few c.requires)
 
 pub bounds-run-j : goal.bounds-run-j
-bounds-run-j c = omega (arith, c.loop-j-test.true, c.job_count-n.ensures, judged_run_few c.requires)
+bounds-run-j c = omega (arith, judged_run_few c.requires)
 
 pub overflow_cast-j : goal.overflow_cast-j
-overflow_cast-j c =
-    omega (
-      arith,
-      c.loop-j-test.true,
-      c.job_count-n.ensures,
-      judged_run_few c.requires,
-    )
+overflow_cast-j c = omega (arith, judged_run_few c.requires)
 
 pub offset_bounds-out-k : goal.offset_bounds-out-k
-unfolding task_count
 offset_bounds-out-k c =
-    let more = c.loop-j-test.true in
-    let below : c.loop-j.j < job_count c.args.jobs.now = omega (arith, more, c.job_count-n.ensures) in
+    let below : c.loop-j.j < job_count c.args.jobs.now = omega arith in
     omega (arith, judged_run_task c.requires c.loop-j.j below, ap (λ (x : Job). x.task) c.job_at-job.ensures)
 
 -- the task of job j is below 16
 pub bounds-out-k : goal.bounds-out-k
 bounds-out-k c =
-    let more = c.loop-j-test.true in
-    let below : c.loop-j.j < job_count c.args.jobs.now = omega (arith, more, c.job_count-n.ensures) in
+    let below : c.loop-j.j < job_count c.args.jobs.now = omega arith in
     omega (arith, judged_run_task c.requires c.loop-j.j below, ap (λ (x : Job). x.task) c.job_at-job.ensures)
 
-pub join_rows-requires : goal.join_rows-requires
+pub join-requires : goal.join-requires
 unfolding standing_at place_at
-join_rows-requires c =
-    let more = c.loop-j-test.true in
-    let below : c.loop-j.j < job_count c.args.jobs.now = omega (arith, more, c.job_count-n.ensures) in
+join-requires c =
+    let below : c.loop-j.j < job_count c.args.jobs.now = omega arith in
     let task = ap (λ (x : Job). x.task) c.job_at-job.ensures in
-    room_there c.requires c.loop-j.j _ c.loop-j.out _ below (omega (arith, judged_run_task c.requires c.loop-j.j below, task)) c.loop-j.invariant.1
-    (one_job c.requires c.loop-j.j _ _ below (ap (λ (x : Job). x.arrival) c.job_at-job.ensures) c.job_row-one.ensures)
+    room_there c.requires c.loop-j.j _ c.loop-j.out _ below (omega (arith, judged_run_task c.requires c.loop-j.j below, task)) c.loop-j.invariant
+    (one_job c.requires c.loop-j.j _ _ _ below (ap (λ (x : Job). x.arrival) c.job_at-job.ensures) c.unwrap-verdict.ensures c.job_row-one.ensures)
 
 pub offset_bounds-out-k-in-loop-j : goal.offset_bounds-out-k-in-loop-j
-unfolding task_count
 offset_bounds-out-k-in-loop-j c =
-    let more = c.loop-j-test.true in
-    let below : c.loop-j.j < job_count c.args.jobs.now = omega (arith, more, c.job_count-n.ensures) in
+    let below : c.loop-j.j < job_count c.args.jobs.now = omega arith in
     omega (arith, judged_run_task c.requires c.loop-j.j below, ap (λ (x : Job). x.task) c.job_at-job.ensures)
 
 pub bounds-out-k-in-loop-j : goal.bounds-out-k-in-loop-j
 bounds-out-k-in-loop-j c =
-    let more = c.loop-j-test.true in
-    let below : c.loop-j.j < job_count c.args.jobs.now = omega (arith, more, c.job_count-n.ensures) in
+    let below : c.loop-j.j < job_count c.args.jobs.now = omega arith in
     omega (arith, judged_run_task c.requires c.loop-j.j below, ap (λ (x : Job). x.task) c.job_at-job.ensures)
-
-pub loop-j-smaller : goal.loop-j-smaller
-loop-j-smaller c = omega (arith, c.loop-j-test.true, c.job_count-n.ensures)
 
 pub loop-j-preserved : goal.loop-j-preserved
 unfolding standing_at place_at
 loop-j-preserved c =
-    let more = c.loop-j-test.true in
-    let below : c.loop-j.j < job_count c.args.jobs.now = omega (arith, more, c.job_count-n.ensures) in
-    let task = ap (λ (x : Job). x.task) c.job_at-job.ensures in (
-      omega (arith, below),
-      own_stored (lists c.args.tasks.now c.args.jobs.now) c.args.run c.loop-j.j _ c.loop-j.out _ _ c.loop-j.invariant.1 task
-          (omega (arith, judged_run_task c.requires c.loop-j.j below, task))
-          (one_job c.requires c.loop-j.j _ _ below (ap (λ (x : Job). x.arrival) c.job_at-job.ensures) c.job_row-one.ensures) c.join_rows.ensures,
-    )
+    let below : c.loop-j.j < job_count c.args.jobs.now = omega arith in
+    let task = ap (λ (x : Job). x.task) c.job_at-job.ensures in
+    own_stored (lists c.args.tasks.now c.args.jobs.now) c.args.run c.loop-j.j _ c.loop-j.out _ _ c.loop-j.invariant task
+    (omega (arith, judged_run_task c.requires c.loop-j.j below, task))
+    (one_job c.requires c.loop-j.j _ _ _ below (ap (λ (x : Job). x.arrival) c.job_at-job.ensures) c.unwrap-verdict.ensures c.job_row-one.ensures) c.join.ensures
 
 pub returns : goal.returns
 unfolding own_report
 returns c =
-    let last : c.loop-j.j ≡ job_count c.args.jobs.now = omega (arith, c.loop-j-test.false, c.job_count-n.ensures, c.loop-j.invariant.0) in
-    c.loop-j.invariant.1 ∙ ap (own_up_to (lists c.args.tasks.now c.args.jobs.now) c.args.run) last
+    let last : c.loop-j.j ≡ job_count c.args.jobs.now = omega arith in
+    c.loop-j.invariant ∙ ap (own_up_to (lists c.args.tasks.now c.args.jobs.now) c.args.run) last

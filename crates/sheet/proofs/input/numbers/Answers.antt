@@ -12,17 +12,17 @@ loop-i-init c = filled_none _ _ _ _ _
 pub field-requires : goal.field-requires
 field-requires c = omega (arith, end_small c.args.per c.loop-i.i, c.byte_behind.ensures)
 
-pub shape_of-list-in_default : goal.shape_of-list-in_default
-shape_of-list-in_default c = filled_length c.loop-i.invariant
+pub shape_of-list-in_err-v : goal.shape_of-list-in_err-v
+shape_of-list-in_err-v c = filled_length c.loop-i.invariant
 
-pub returns-in_default : goal.returns-in_default
-returns-in_default c = filled_bad c.loop-i.invariant (search rules) ((let lemma_read : let a = c.args in field_at a.text.now c.loop-i.k (byte_behind a.per c.loop-i.i) ≡ c.field.result = ap (λ (e : ℕ). field_at c.args.text.now c.loop-i.k e) (sym c.byte_behind.ensures) ∙ sym c.field.ensures in lemma_read) ∙ c.in_default.is) _
+pub returns-in_err-v : goal.returns-in_err-v
+returns-in_err-v c = rw c.from_residual.ensures (filled_bad c.loop-i.invariant (search rules) ((ap (λ (e : ℕ). field_at c.args.text.now c.loop-i.k e) (sym c.byte_behind.ensures) ∙ sym c.field.ensures) ∙ c.in_err-v.was) _)
 
 pub bounds-list-i : goal.bounds-list-i
 bounds-list-i c = omega (arith, filled_length c.loop-i.invariant)
 
 pub loop-i-preserved : goal.loop-i-preserved
-loop-i-preserved c = filled_more c.loop-i.invariant (search rules) ((let lemma_read : let a = c.args in field_at a.text.now c.loop-i.k (byte_behind a.per c.loop-i.i) ≡ c.field.result = ap (λ (e : ℕ). field_at c.args.text.now c.loop-i.k e) (sym c.byte_behind.ensures) ∙ sym c.field.ensures in lemma_read) ∙ c.in-Value.is)
+loop-i-preserved c = filled_more c.loop-i.invariant (search rules) ((ap (λ (e : ℕ). field_at c.args.text.now c.loop-i.k e) (sym c.byte_behind.ensures) ∙ sym c.field.ensures) ∙ c.in_ok-v.was)
 
 pub shape_of-list : goal.shape_of-list
 shape_of-list c = filled_length c.loop-i.invariant

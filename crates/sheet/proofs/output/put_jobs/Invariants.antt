@@ -1,6 +1,7 @@
 -- The lines of the first j jobs are written.
-use Prim.Native.Nat.{ℕ, ◌-◌, ◌<◌, ◌≤◌}
+use Prim.Native.Nat.{ℕ, ◌<◌}
 use mathlib.Core.Path.{◌≡◌}
+use Rattle.std.specs.Prelude.{Ok}
 use Rattle.tables.specs.Tables.{job_count, lists}
 use Rattle.zsrm.specs.Answers.{verdict_of}
 use Rattle.zsrm.specs.Verdict.{verdict}
@@ -10,8 +11,5 @@ use Rattle.sheet.proofs.output.put_jobs.Given as goal
 
 abbrev pub invariant-loop-j : goal.invariant-loop-j
 invariant-loop-j l =
-    (l.j ≤ job_count l.jobs) × ((i : ℕ) → i < job_count l.jobs → verdict_of l.all i ≡ verdict (lists l.tasks l.jobs) l.rec i)
+    ((i : ℕ) → i < job_count l.jobs → verdict_of l.all i ≡ Ok (verdict (lists l.tasks l.jobs) l.rec i))
     × Put l.initial.out l.at (job_lines (lists l.tasks l.jobs) l.rec l.j) l.out l.k
-
-abbrev pub decreases-loop-j : goal.decreases-loop-j
-decreases-loop-j l = job_count l.jobs - l.j

@@ -1,17 +1,12 @@
--- A table that is accepted has at most 16 tasks, and the jobs are looked at; one that is refused is all there is to say.
-use mathlib.Core.Path.{sym, ◌∙◌}
+-- A table that is refused is all there is to say.
 use Rattle.tables.specs.Bytes.{check_lists_in}
-use Rattle.tables.proofs.Laws.InBytes.{few_tasks_in}
-use Rattle.tables.proofs.Laws.Refusals.{before_passes, before_stops}
+use Rattle.tables.proofs.Laws.Refusals.{goes_on, stops}
 use Rattle.tables.proofs.refusals.check_lists_in.Goals as goal
 
-pub check_jobs_in-requires : goal.check_jobs_in-requires
-check_jobs_in-requires c = few_tasks_in _ (sym c.check_tasks_in-table.ensures ∙ c.in-Done.is)
-
-pub returns-in-Done : goal.returns-in-Done
+pub returns-in_err-check_tasks_in : goal.returns-in_err-check_tasks_in
 unfolding check_lists_in
-returns-in-Done c = c.check_jobs_in.ensures ∙ sym (before_passes _ _ (sym c.check_tasks_in-table.ensures ∙ c.in-Done.is))
+returns-in_err-check_tasks_in c = stops _ _ c.check_tasks_in.ensures c.in_err-check_tasks_in.was c.from_residual.ensures.1
 
-pub returns-in-Refused : goal.returns-in-Refused
+pub returns : goal.returns
 unfolding check_lists_in
-returns-in-Refused c = sym (before_stops _ _ _ _ (sym c.check_tasks_in-table.ensures ∙ c.in-Refused.is))
+returns c = goes_on _ _ c.check_tasks_in.ensures c.in_ok-check_tasks_in.was c.check_jobs_in.ensures

@@ -1,5 +1,4 @@
 -- The invariant: the task's jobs below j are gathered.
-use Prim.Native.Nat.{◌-◌, ◌≤◌}
 use mathlib.Core.List.{map}
 use Rattle.zsrm.specs.Answers.{verdict_of}
 use Rattle.window.specs.Code.{GatheredAs}
@@ -7,7 +6,4 @@ use Rattle.window.specs.Windows.{jobs_below}
 use Rattle.window.proofs.jobs.gather.Given as goal
 
 abbrev pub invariant-loop-j : goal.invariant-loop-j
-invariant-loop-j l = (l.j ≤ l.n) × GatheredAs (jobs_below l.jobs l.task l.j) (map (verdict_of l.all) (jobs_below l.jobs l.task l.j)) l.own
-
-abbrev pub decreases-loop-j : goal.decreases-loop-j
-decreases-loop-j l = l.n - l.j
+invariant-loop-j l = GatheredAs (jobs_below l.jobs l.task l.j) (map (verdict_of l.all) (jobs_below l.jobs l.task l.j)) l.own

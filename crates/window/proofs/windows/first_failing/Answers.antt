@@ -1,9 +1,8 @@
 use Prim.Native.Nat.{ℕ, suc, ◌-◌}
 use mathlib.Core.Bool.{Bool}
-use mathlib.Core.Path.{◌≡◌, ap, sym, ◌∙◌}
+use mathlib.Core.Path.{ap, sym, ◌∙◌}
 use native.Mathlib.Omega.{arith}
 use lib.Dec.{ltb}
-use borrow.Author.Rules.{rules}
 use borrow.Author.Tests.{le-ltb, lt-ltb}
 use Rattle.bits.proofs.Laws.Below.{least_is, least_none, none_passes, scan_end, scan_on}
 use Rattle.window.specs.declared.jobs.Gathered.{Gathered}
@@ -14,13 +13,10 @@ abbrev over : Gathered → ℕ → ℕ → ℕ → Bool
 over own m k i = ltb m (misses_between own k i)
 
 pub loop-i-init : goal.loop-i-init
-loop-i-init c = (omega arith, none_passes _ 0 (λ i l. absurd (omega arith)))
-
-pub overflow_add-i : goal.overflow_add-i
-overflow_add-i c = omega (arith, c.requires)
+loop-i-init c = none_passes _ 0 (λ i l. absurd (omega arith))
 
 pub misses-requires : goal.misses-requires
-misses-requires c = (c.requires.0, search rules)
+misses-requires c = (c.requires.0, omega (arith, c.saturating_sub-i-end.ensures))
 
 pub returns-then-m-misses : goal.returns-then-m-misses
 unfolding first_over
@@ -28,14 +24,12 @@ returns-then-m-misses c =
     let a = c.args in
     let f = over a.own a.m a.k in
     let n = suc a.own.count - a.k in
-    sym (least_is f n n c.loop-i.i (omega (arith, c.loop-i-test.true)) c.loop-i.invariant.1 (ap (ltb a.m) (sym c.misses.ensures) ∙ lt-ltb a.m _ c.if-m-misses.true))
+    (sym (least_is f n n c.loop-i.i (omega arith) c.loop-i.invariant (ap (ltb a.m) (sym c.misses.ensures) ∙ lt-ltb a.m _ c.if-m-misses.true)), omega arith)
 
 pub loop-i-preserved : goal.loop-i-preserved
 loop-i-preserved c =
-    let a = c.args in (
-      omega (arith, c.loop-i-test.true),
-      scan_on (over a.own a.m a.k) c.loop-i.i (ltb a.m c.misses.result) c.loop-i.invariant.1 (ap (ltb a.m) c.misses.ensures) (le-ltb a.m _ c.if-m-misses.false),
-    )
+    let a = c.args in
+    scan_on (over a.own a.m a.k) c.loop-i.i (ltb a.m c.misses.result) c.loop-i.invariant (ap (ltb a.m) c.misses.ensures) (le-ltb a.m _ c.if-m-misses.false)
 
 pub returns : goal.returns
 unfolding first_over
@@ -43,5 +37,4 @@ returns c =
     let a = c.args in
     let f = over a.own a.m a.k in
     let n = suc a.own.count - a.k in
-    let last : c.loop-i.i ≡ n = omega (arith, c.loop-i-test.false) in
-    last ∙ sym (least_none f n n (scan_end f n c.loop-i.i (omega arith) (omega arith) c.loop-i.invariant.1))
+    omega (arith, least_none f n n (scan_end f n c.loop-i.i (omega arith) (omega arith) c.loop-i.invariant))

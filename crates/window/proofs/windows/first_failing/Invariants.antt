@@ -1,5 +1,5 @@
 -- No window before the i-th contains more than m misses.
-use Prim.Native.Nat.{ℕ, suc, ◌-◌, ◌≤◌}
+use Prim.Native.Nat.{ℕ}
 use mathlib.Core.Bool.{Bool, false}
 use mathlib.Core.Path.{◌≡◌}
 use lib.Dec.{ltb}
@@ -12,7 +12,4 @@ abbrev over : Gathered → ℕ → ℕ → ℕ → Bool
 over own m k i = ltb m (misses_between own k i)
 
 abbrev pub invariant-loop-i : goal.invariant-loop-i
-invariant-loop-i l = (l.i ≤ suc l.own.count - l.k) × (some l.i (over l.own l.m l.k) ≡ false)
-
-abbrev pub decreases-loop-i : goal.decreases-loop-i
-decreases-loop-i l = (suc l.own.count - l.k) - l.i
+invariant-loop-i l = some l.i (over l.own l.m l.k) ≡ false

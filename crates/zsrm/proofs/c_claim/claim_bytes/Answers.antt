@@ -24,20 +24,12 @@ at_tick-seen-requires c =
     let w = call_fits _ _ _ _ _ c.requires.call in
     let limit = c.requires.schedule_len_bound in
     let on = c.loop-t-test.true in
-    (omega arith, w.0, w.1)
+    (omega arith, w)
 
 pub number2-entry-requires : goal.number2-entry-requires
 number2-entry-requires c =
     let on = c.loop-t-test.true in
     omega (arith, on)
-
-pub eligible_of-eligible-requires : goal.eligible_of-eligible-requires
-eligible_of-eligible-requires c =
-    let w = call_fits _ _ _ _ _ c.requires.call in
-    (w.2, w.1)
-
-pub may_stand-requires : goal.may_stand-requires
-may_stand-requires c = (call_fits _ _ _ _ _ c.requires.call).2
 
 pub overflow_cast-t-then-may_stand : goal.overflow_cast-t-then-may_stand
 overflow_cast-t-then-may_stand c =
@@ -54,20 +46,12 @@ overflow_cast-ticks c =
 pub reach_of-reach-requires : goal.reach_of-reach-requires
 reach_of-reach-requires c =
     let w = call_fits _ _ _ _ _ c.requires.call in
-    (c.loop-t-test.true, c.at_tick-seen.ensures.ahead, w.0, w.1)
-
-pub slice_bounds-run_on-end : goal.slice_bounds-run_on-end
-slice_bounds-run_on-end c =
-    let size = c.loop-t.invariant.1.size in
-    search rules
+    (c.loop-t-test.true, c.at_tick-seen.ensures.ahead, w)
 
 pub run_on-ran-requires : goal.run_on-ran-requires
 run_on-ran-requires c =
     let w = call_fits _ _ _ _ _ c.requires.call in (
-      w.0,
-      c.loop-t.invariant.1.size,
-      w.2,
-      w.1,
+      w,
       claiming_room _ _ _ _ _ c.requires.call c.args.schedule.now c.requires.schedule_len_bound c.loop-t.done c.loop-t.going c.loop-t.t c.loop-t.invariant.1 c.loop-t-test.true
           c.at_tick-seen.result c.at_tick-seen.ensures.onward c.at_tick-seen.ensures.later c.at_tick-seen.ensures.ahead _ _ c.reach_of-reach.ensures,
     )

@@ -1,5 +1,4 @@
 -- All entries so far are this one.
-use Prim.Native.Nat.{◌-◌, ◌≤◌}
 use mathlib.Core.Bool.{false}
 use mathlib.Core.Path.{◌≡◌}
 use Rattle.bits.specs.Below.{some}
@@ -8,7 +7,4 @@ use Rattle.zsrm.proofs.Laws.Underway.{stops}
 use Rattle.zsrm.proofs.c_claim.same_until.Given as goal
 
 abbrev pub invariant-loop-many : goal.invariant-loop-many
-invariant-loop-many l = (l.many ≤ l.k) × (some l.many (stops (numbers_in 2 l.schedule) l.t l.entry l.k) ≡ false)
-
-abbrev pub decreases-loop-many : goal.decreases-loop-many
-decreases-loop-many l = l.k - l.many
+invariant-loop-many l = some l.many (stops (numbers_in 2 l.schedule) l.t l.entry l.k) ≡ false

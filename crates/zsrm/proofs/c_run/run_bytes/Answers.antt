@@ -1,5 +1,5 @@
 use Prim.Native.Nat.{◌+◌, ◌/◌, ◌≤◌}
-use mathlib.Core.Path.{ap, refl, sym, ◌∙◌, ◌≡◌}
+use mathlib.Core.Path.{ap, refl, ◌∙◌}
 use native.Mathlib.Omega.{arith}
 use lib.ListN.{length}
 use borrow.Author.Rules.{rules}
@@ -16,13 +16,7 @@ pub overflow_cast-t : goal.overflow_cast-t
 overflow_cast-t c = let b = (let lemma_short : length c.args.schedule.now / 2 ≤ 16384 = let b = c.requires.schedule_len_bound.0 in omega (arith, b) in lemma_short) in search rules
 
 pub at_tick-here-requires : goal.at_tick-here-requires
-at_tick-here-requires c = let f = (let lemma_fits : let a = c.args in (length a.jobs.now / 12 ≤ 64) × (length a.g.now ≡ 320) × (length a.masks.now ≡ 32) = call_fits _ _ _ _ _ c.requires.call in lemma_fits) in (omega (arith, c.loop-t-test.true, (let lemma_short : length c.args.schedule.now / 2 ≤ 16384 = let b = c.requires.schedule_len_bound.0 in omega (arith, b) in lemma_short)), f.0, f.1)
-
-pub eligible_of-eligible-requires : goal.eligible_of-eligible-requires
-eligible_of-eligible-requires c = let f = (let lemma_fits : let a = c.args in (length a.jobs.now / 12 ≤ 64) × (length a.g.now ≡ 320) × (length a.masks.now ≡ 32) = call_fits _ _ _ _ _ c.requires.call in lemma_fits) in (f.2, f.1)
-
-pub lowest_of-entry-requires : goal.lowest_of-entry-requires
-lowest_of-entry-requires c = ((let lemma_fits : let a = c.args in (length a.jobs.now / 12 ≤ 64) × (length a.g.now ≡ 320) × (length a.masks.now ≡ 32) = call_fits _ _ _ _ _ c.requires.call in lemma_fits)).2
+at_tick-here-requires c = let f = call_fits _ _ _ _ _ c.requires.call in (omega (arith, c.loop-t-test.true, (let lemma_short : length c.args.schedule.now / 2 ≤ 16384 = let b = c.requires.schedule_len_bound.0 in omega (arith, b) in lemma_short)), f)
 
 pub overflow_cast-t-in-loop-t : goal.overflow_cast-t-in-loop-t
 overflow_cast-t-in-loop-t c = let b = (let lemma_short : length c.args.schedule.now / 2 ≤ 16384 = let b = c.requires.schedule_len_bound.0 in omega (arith, b) in lemma_short) in search rules
@@ -31,19 +25,13 @@ pub overflow_cast-ticks : goal.overflow_cast-ticks
 overflow_cast-ticks c = let b = (let lemma_short : length c.args.schedule.now / 2 ≤ 16384 = let b = c.requires.schedule_len_bound.0 in omega (arith, b) in lemma_short) in search rules
 
 pub reach_of-reach-requires : goal.reach_of-reach-requires
-reach_of-reach-requires c = let f = (let lemma_fits : let a = c.args in (length a.jobs.now / 12 ≤ 64) × (length a.g.now ≡ 320) × (length a.masks.now ≡ 32) = call_fits _ _ _ _ _ c.requires.call in lemma_fits) in (c.loop-t-test.true, c.at_tick-here.ensures.ahead, f.0, f.1)
-
-pub slice_bounds-run_on-end : goal.slice_bounds-run_on-end
-slice_bounds-run_on-end c = sym c.loop-t.invariant.1.places
+reach_of-reach-requires c = let f = call_fits _ _ _ _ _ c.requires.call in (c.loop-t-test.true, c.at_tick-here.ensures.ahead, f)
 
 pub run_on-on-requires : goal.run_on-on-requires
 run_on-on-requires c =
     let chose = c.lowest_of-entry.ensures ∙ ap (lowest_of _) c.eligible_of-eligible.ensures in
-    let f = (let lemma_fits : let a = c.args in (length a.jobs.now / 12 ≤ 64) × (length a.g.now ≡ 320) × (length a.masks.now ≡ 32) = call_fits _ _ _ _ _ c.requires.call in lemma_fits) in (
-      f.0,
-      c.loop-t.invariant.1.places,
-      f.2,
-      f.1,
+    let f = call_fits _ _ _ _ _ c.requires.call in (
+      f,
       running_room _ _ _ _ _ c.requires.call _ _ _ _ _ c.loop-t.invariant.1 _ c.at_tick-here.ensures.onward c.at_tick-here.ensures.later c.at_tick-here.ensures.ahead _ chose _ c.loop-t-test.true
           ((let lemma_short : length c.args.schedule.now / 2 ≤ 16384 = let b = c.requires.schedule_len_bound.0 in omega (arith, b) in lemma_short)) _ c.reach_of-reach.ensures,
     )
@@ -59,7 +47,7 @@ pub overflow_cast-t-in-loop-t-2 : goal.overflow_cast-t-in-loop-t-2
 overflow_cast-t-in-loop-t-2 c = let far = (let lemma_within : c.loop-t.t + c.run_on-on.result.ticks ≤ length c.args.schedule.now / 2 = let chose = c.lowest_of-entry.ensures ∙ ap (lowest_of _) c.eligible_of-eligible.ensures in running_within _ _ _ _ _ c.requires.call _ _ _ _ _ c.loop-t.invariant.1 _ c.at_tick-here.ensures.onward c.at_tick-here.ensures.later c.at_tick-here.ensures.ahead _ chose _ c.loop-t-test.true ((let lemma_short : length c.args.schedule.now / 2 ≤ 16384 = let b = c.requires.schedule_len_bound.0 in omega (arith, b) in lemma_short)) _ c.reach_of-reach.ensures _ c.run_on-on.ensures.ticks in lemma_within) in let b = (let lemma_short : length c.args.schedule.now / 2 ≤ 16384 = let b = c.requires.schedule_len_bound.0 in omega (arith, b) in lemma_short) in search rules
 
 pub kept-going-requires : goal.kept-going-requires
-kept-going-requires c = (omega (arith, (let lemma_within : c.loop-t.t + c.run_on-on.result.ticks ≤ length c.args.schedule.now / 2 = let chose = c.lowest_of-entry.ensures ∙ ap (lowest_of _) c.eligible_of-eligible.ensures in running_within _ _ _ _ _ c.requires.call _ _ _ _ _ c.loop-t.invariant.1 _ c.at_tick-here.ensures.onward c.at_tick-here.ensures.later c.at_tick-here.ensures.ahead _ chose _ c.loop-t-test.true ((let lemma_short : length c.args.schedule.now / 2 ≤ 16384 = let b = c.requires.schedule_len_bound.0 in omega (arith, b) in lemma_short)) _ c.reach_of-reach.ensures _ c.run_on-on.ensures.ticks in lemma_within), (let lemma_short : length c.args.schedule.now / 2 ≤ 16384 = let b = c.requires.schedule_len_bound.0 in omega (arith, b) in lemma_short)), ((let lemma_fits : let a = c.args in (length a.jobs.now / 12 ≤ 64) × (length a.g.now ≡ 320) × (length a.masks.now ≡ 32) = call_fits _ _ _ _ _ c.requires.call in lemma_fits)).1)
+kept-going-requires c = (omega (arith, (let lemma_within : c.loop-t.t + c.run_on-on.result.ticks ≤ length c.args.schedule.now / 2 = let chose = c.lowest_of-entry.ensures ∙ ap (lowest_of _) c.eligible_of-eligible.ensures in running_within _ _ _ _ _ c.requires.call _ _ _ _ _ c.loop-t.invariant.1 _ c.at_tick-here.ensures.onward c.at_tick-here.ensures.later c.at_tick-here.ensures.ahead _ chose _ c.loop-t-test.true ((let lemma_short : length c.args.schedule.now / 2 ≤ 16384 = let b = c.requires.schedule_len_bound.0 in omega (arith, b) in lemma_short)) _ c.reach_of-reach.ensures _ c.run_on-on.ensures.ticks in lemma_within), (let lemma_short : length c.args.schedule.now / 2 ≤ 16384 = let b = c.requires.schedule_len_bound.0 in omega (arith, b) in lemma_short)))
 
 pub overflow_add-t-in-loop-t : goal.overflow_add-t-in-loop-t
 overflow_add-t-in-loop-t c = let far = (let lemma_within : c.loop-t.t + c.run_on-on.result.ticks ≤ length c.args.schedule.now / 2 = let chose = c.lowest_of-entry.ensures ∙ ap (lowest_of _) c.eligible_of-eligible.ensures in running_within _ _ _ _ _ c.requires.call _ _ _ _ _ c.loop-t.invariant.1 _ c.at_tick-here.ensures.onward c.at_tick-here.ensures.later c.at_tick-here.ensures.ahead _ chose _ c.loop-t-test.true ((let lemma_short : length c.args.schedule.now / 2 ≤ 16384 = let b = c.requires.schedule_len_bound.0 in omega (arith, b) in lemma_short)) _ c.reach_of-reach.ensures _ c.run_on-on.ensures.ticks in lemma_within) in let b = (let lemma_short : length c.args.schedule.now / 2 ≤ 16384 = let b = c.requires.schedule_len_bound.0 in omega (arith, b) in lemma_short) in search rules

@@ -8,13 +8,13 @@ use Rattle.zsrm.proofs.calls.run_on.Goals as goal
 pub overflow_cast-ticks : goal.overflow_cast-ticks
 overflow_cast-ticks c =
     let m = run_most _ _ _ _ _ c.args.reach _ c.run_gap-k.ensures in
-    let room = c.requires.4 c.if-j-n.true in
+    let room = c.requires.1 c.if-j-n.true in
     record { fits = omega (arith, m, room) }
 
 pub overflow_add-ticks : goal.overflow_add-ticks
 overflow_add-ticks c =
     let m = run_most _ _ _ _ _ c.args.reach _ c.run_gap-k.ensures in
-    let room = c.requires.4 c.if-j-n.true in
+    let room = c.requires.1 c.if-j-n.true in
     record { fits = omega (arith, m, room) }
 
 pub returns-then-j-n : goal.returns-then-j-n

@@ -6,4 +6,4 @@ use Rattle.zsrm.proofs.claims.claim.Goals as goal
 
 pub returns : goal.returns
 unfolding replay_answer
-returns c = ap (λ (x : Replayed). x.claim) c.replay-replayed.ensures
+returns c = ap (λ (x : Replayed). x.claim) c.replay.ensures

@@ -1,5 +1,4 @@
 -- No job below j is a reason.
-use Prim.Native.Nat.{◌-◌, ◌≤◌}
 use mathlib.Core.Path.{◌≡◌}
 use mathlib.Core.Bool.{false}
 use Rattle.bits.specs.Below.{some}
@@ -8,7 +7,4 @@ use Rattle.zsrm.proofs.Laws.Claims.{instant_in}
 use Rattle.zsrm.proofs.claims.is_instant.Given as goal
 
 abbrev pub invariant-loop-j : goal.invariant-loop-j
-invariant-loop-j l = (l.j ≤ l.n) × (some l.j (instant_in (lists l.tasks l.jobs) l.se l.last l.rec) ≡ false)
-
-abbrev pub decreases-loop-j : goal.decreases-loop-j
-decreases-loop-j l = l.n - l.j
+invariant-loop-j l = some l.j (instant_in (lists l.tasks l.jobs) l.se l.last l.rec) ≡ false

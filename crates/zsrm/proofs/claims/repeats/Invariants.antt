@@ -1,5 +1,4 @@
 -- None of the first i entries from t on is another.
-use Prim.Native.Nat.{◌-◌, ◌≤◌}
 use mathlib.Core.Bool.{false}
 use mathlib.Core.Path.{◌≡◌}
 use Rattle.bits.specs.Below.{some}
@@ -7,7 +6,4 @@ use Rattle.zsrm.proofs.Laws.Underway.{stops}
 use Rattle.zsrm.proofs.claims.repeats.Given as goal
 
 abbrev pub invariant-loop-i : goal.invariant-loop-i
-invariant-loop-i l = (l.i ≤ l.most) × (some l.i (stops l.schedule l.t l.entry l.most) ≡ false)
-
-abbrev pub decreases-loop-i : goal.decreases-loop-i
-decreases-loop-i l = l.most - l.i
+invariant-loop-i l = some l.i (stops l.schedule l.t l.entry l.most) ≡ false

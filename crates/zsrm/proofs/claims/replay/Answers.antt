@@ -7,14 +7,14 @@ use Rattle.zsrm.proofs.claims.replay.Goals as goal
 
 pub walk-walked-requires : goal.walk-walked-requires
 walk-walked-requires c =
-    let w = accepted _ _ _ (sym c.check_schedule-checked.ensures ∙ c.in-Done.is) in
+    let w = accepted _ _ _ (sym c.check_schedule.ensures ∙ c.in-Ok.is) in
     (w.lists, omega (arith, w.bounded, w.whole))
 
-pub returns-then-ticks-schedule : goal.returns-then-ticks-schedule
-returns-then-ticks-schedule c = replay_legal _ _ _ _ c.walk-walked.ensures (sym c.check_schedule-checked.ensures ∙ c.in-Done.is) c.if-ticks-schedule.true
+pub returns-then-walked-schedule : goal.returns-then-walked-schedule
+returns-then-walked-schedule c = replay_legal _ _ _ _ c.walk-walked.ensures (sym c.check_schedule.ensures ∙ c.in-Ok.is) c.if-walked-schedule.true
 
-pub returns-else-ticks-schedule : goal.returns-else-ticks-schedule
-returns-else-ticks-schedule c = replay_illegal _ _ _ _ c.walk-walked.ensures (sym c.check_schedule-checked.ensures ∙ c.in-Done.is) _ c.if-ticks-schedule.false c.blank-record.ensures
+pub returns-else-walked-schedule : goal.returns-else-walked-schedule
+returns-else-walked-schedule c = replay_illegal _ _ _ _ c.walk-walked.ensures (sym c.check_schedule.ensures ∙ c.in-Ok.is) _ c.if-walked-schedule.false c.blank.ensures
 
-pub returns-in-Refused : goal.returns-in-Refused
-returns-in-Refused c = replay_refused _ _ _ _ _ _ (sym c.check_schedule-checked.ensures ∙ c.in-Refused.is) c.blank-record-in-Refused.ensures
+pub returns-in-Err : goal.returns-in-Err
+returns-in-Err c = replay_refused _ _ _ _ _ _ (sym c.check_schedule.ensures ∙ c.in-Err.is) c.blank-in-Err.ensures

@@ -15,7 +15,7 @@ use Rattle.zsrm.proofs.Laws.Underway.{started_record}
 use Rattle.zsrm.proofs.claims.walk.Goals as goal
 
 pub started-s-requires : goal.started-s-requires
-started-s-requires c = (omega (arith, c.job_count-n.ensures, lists_few _ c.requires.0), c.gathered-g.ensures.size)
+started-s-requires c = omega (arith, c.job_count-n.ensures, lists_few _ c.requires.0)
 
 pub loop-t-init : goal.loop-t-init
 loop-t-init c =
@@ -24,9 +24,6 @@ loop-t-init c =
     let z = made_setup x _ _ (is_se a.mode) c.requires.0 c.gathered-g.ensures c.job_count-n.ensures refl in
     let w = walking_none x a.schedule.now _ (started_record _ _ _ _ c.started-s.ensures ∙ c.fresh_record.ensures) in
     (omega arith, c.requires.1, w.replaying, (λ _. w.free), first_kept x _ _ _ z _ _ c.started-s.ensures)
-
-pub look-seen-requires : goal.look-seen-requires
-look-seen-requires c = c.gathered-g.ensures.size
 
 pub is_top_or_idle-requires : goal.is_top_or_idle-requires
 is_top_or_idle-requires c = setup_fits _ _ _ _ ((let lemma_setup : let a = c.args in Setup (given a.mode a.tasks.now a.jobs.now) c.gathered-g.result c.job_count-n.result c.is_se-se.result = made_setup _ _ _ _ c.requires.0 c.gathered-g.ensures c.job_count-n.ensures c.is_se-se.ensures in lemma_setup))
@@ -45,31 +42,28 @@ repeats-k-requires c =
     let within = turn_within _ _ _ _ ((let lemma_setup : let a = c.args in Setup (given a.mode a.tasks.now a.jobs.now) c.gathered-g.result c.job_count-n.result c.is_se-se.result = made_setup _ _ _ _ c.requires.0 c.gathered-g.ensures c.job_count-n.ensures c.is_se-se.ensures in lemma_setup)) c.loop-t.s w.4 _ c.look-seen.ensures w.2.sound _ ((let lemma_may : let a = c.args in candidate_or_idle (given a.mode a.tasks.now a.jobs.now) c.loop-t.s.«record» (get_or a.schedule.now c.loop-t.t 0) ≡ true = let w = c.loop-t.invariant in sym (turn_may _ _ _ _ ((let lemma_setup : let a = c.args in Setup (given a.mode a.tasks.now a.jobs.now) c.gathered-g.result c.job_count-n.result c.is_se-se.result = made_setup _ _ _ _ c.requires.0 c.gathered-g.ensures c.job_count-n.ensures c.is_se-se.ensures in lemma_setup)) c.loop-t.s w.4 _ c.look-seen.ensures _ _ c.is_top_or_idle.ensures) ∙ c.if-is_top_or_idle.true in lemma_may)) _ _ some c.ahead-far.ensures.ticks in
     omega (arith, within, c.loop-t-test.true)
 
-pub slice_bounds-leap-end : goal.slice_bounds-leap-end
-slice_bounds-leap-end c = let size = (setup_fits _ _ _ _ ((let lemma_setup : let a = c.args in Setup (given a.mode a.tasks.now a.jobs.now) c.gathered-g.result c.job_count-n.result c.is_se-se.result = made_setup _ _ _ _ c.requires.0 c.gathered-g.ensures c.job_count-n.ensures c.is_se-se.ensures in lemma_setup))).1 in search rules
-
-pub leap-next-requires : goal.leap-next-requires
-leap-next-requires c =
+pub leap-s-requires : goal.leap-s-requires
+leap-s-requires c =
     let w = c.loop-t.invariant in
     let room = walk_room _ _ _ _ ((let lemma_setup : let a = c.args in Setup (given a.mode a.tasks.now a.jobs.now) c.gathered-g.result c.job_count-n.result c.is_se-se.result = made_setup _ _ _ _ c.requires.0 c.gathered-g.ensures c.job_count-n.ensures c.is_se-se.ensures in lemma_setup)) c.loop-t.s w.4 _ c.look-seen.ensures _ w.1 c.loop-t.t w.2 w.3 c.loop-t-test.true _ refl
     ((let lemma_may : let a = c.args in candidate_or_idle (given a.mode a.tasks.now a.jobs.now) c.loop-t.s.«record» (get_or a.schedule.now c.loop-t.t 0) ≡ true = let w = c.loop-t.invariant in sym (turn_may _ _ _ _ ((let lemma_setup : let a = c.args in Setup (given a.mode a.tasks.now a.jobs.now) c.gathered-g.result c.job_count-n.result c.is_se-se.result = made_setup _ _ _ _ c.requires.0 c.gathered-g.ensures c.job_count-n.ensures c.is_se-se.ensures in lemma_setup)) c.loop-t.s w.4 _ c.look-seen.ensures _ _ c.is_top_or_idle.ensures) ∙ c.if-is_top_or_idle.true in lemma_may)) _ c.ahead-far.ensures.ticks _ c.repeats-k.ensures in let both = turn_fits _ _ _ _ ((let lemma_setup : let a = c.args in Setup (given a.mode a.tasks.now a.jobs.now) c.gathered-g.result c.job_count-n.result c.is_se-se.result = made_setup _ _ _ _ c.requires.0 c.gathered-g.ensures c.job_count-n.ensures c.is_se-se.ensures in lemma_setup)) c.loop-t.s w.4 _ c.look-seen.ensures w.2.sound _ ((let lemma_may : let a = c.args in candidate_or_idle (given a.mode a.tasks.now a.jobs.now) c.loop-t.s.«record» (get_or a.schedule.now c.loop-t.t 0) ≡ true = let w = c.loop-t.invariant in sym (turn_may _ _ _ _ ((let lemma_setup : let a = c.args in Setup (given a.mode a.tasks.now a.jobs.now) c.gathered-g.result c.job_count-n.result c.is_se-se.result = made_setup _ _ _ _ c.requires.0 c.gathered-g.ensures c.job_count-n.ensures c.is_se-se.ensures in lemma_setup)) c.loop-t.s w.4 _ c.look-seen.ensures _ _ c.is_top_or_idle.ensures) ∙ c.if-is_top_or_idle.true in lemma_may)) _ room in
     record { n_bound = both.0; k_bound = both.1 }
 
 pub overflow_add-t : goal.overflow_add-t
-overflow_add-t c = let room = ((let lemma_turn : let a = c.args in Walks (given a.mode a.tasks.now a.jobs.now) a.schedule.now c.loop-t.t c.ahead-far.result.ticks c.repeats-k.result c.leap-next.result = let w = c.loop-t.invariant in walk_turns _ _ _ _ ((let lemma_setup : let a = c.args in Setup (given a.mode a.tasks.now a.jobs.now) c.gathered-g.result c.job_count-n.result c.is_se-se.result = made_setup _ _ _ _ c.requires.0 c.gathered-g.ensures c.job_count-n.ensures c.is_se-se.ensures in lemma_setup)) c.loop-t.s w.4 _ c.look-seen.ensures _ w.1 c.loop-t.t w.2 w.3 c.loop-t-test.true _ refl ((let lemma_may : let a = c.args in candidate_or_idle (given a.mode a.tasks.now a.jobs.now) c.loop-t.s.«record» (get_or a.schedule.now c.loop-t.t 0) ≡ true = let w = c.loop-t.invariant in sym (turn_may _ _ _ _ ((let lemma_setup : let a = c.args in Setup (given a.mode a.tasks.now a.jobs.now) c.gathered-g.result c.job_count-n.result c.is_se-se.result = made_setup _ _ _ _ c.requires.0 c.gathered-g.ensures c.job_count-n.ensures c.is_se-se.ensures in lemma_setup)) c.loop-t.s w.4 _ c.look-seen.ensures _ _ c.is_top_or_idle.ensures) ∙ c.if-is_top_or_idle.true in lemma_may)) _ c.ahead-far.ensures.ticks _ c.repeats-k.ensures _ c.ahead-far.ensures.early _ c.leap-next.ensures in lemma_turn)).room in search rules
+overflow_add-t c = let room = ((let lemma_turn : let a = c.args in Walks (given a.mode a.tasks.now a.jobs.now) a.schedule.now c.loop-t.t c.ahead-far.result.ticks c.repeats-k.result c.leap-s.result = let w = c.loop-t.invariant in walk_turns _ _ _ _ ((let lemma_setup : let a = c.args in Setup (given a.mode a.tasks.now a.jobs.now) c.gathered-g.result c.job_count-n.result c.is_se-se.result = made_setup _ _ _ _ c.requires.0 c.gathered-g.ensures c.job_count-n.ensures c.is_se-se.ensures in lemma_setup)) c.loop-t.s w.4 _ c.look-seen.ensures _ w.1 c.loop-t.t w.2 w.3 c.loop-t-test.true _ refl ((let lemma_may : let a = c.args in candidate_or_idle (given a.mode a.tasks.now a.jobs.now) c.loop-t.s.«record» (get_or a.schedule.now c.loop-t.t 0) ≡ true = let w = c.loop-t.invariant in sym (turn_may _ _ _ _ ((let lemma_setup : let a = c.args in Setup (given a.mode a.tasks.now a.jobs.now) c.gathered-g.result c.job_count-n.result c.is_se-se.result = made_setup _ _ _ _ c.requires.0 c.gathered-g.ensures c.job_count-n.ensures c.is_se-se.ensures in lemma_setup)) c.loop-t.s w.4 _ c.look-seen.ensures _ _ c.is_top_or_idle.ensures) ∙ c.if-is_top_or_idle.true in lemma_may)) _ c.ahead-far.ensures.ticks _ c.repeats-k.ensures _ c.ahead-far.ensures.early _ c.leap-s.ensures in lemma_turn)).room in search rules
 
 pub overflow_cast-result : goal.overflow_cast-result
-overflow_cast-result c = let room = ((let lemma_turn : let a = c.args in Walks (given a.mode a.tasks.now a.jobs.now) a.schedule.now c.loop-t.t c.ahead-far.result.ticks c.repeats-k.result c.leap-next.result = let w = c.loop-t.invariant in walk_turns _ _ _ _ ((let lemma_setup : let a = c.args in Setup (given a.mode a.tasks.now a.jobs.now) c.gathered-g.result c.job_count-n.result c.is_se-se.result = made_setup _ _ _ _ c.requires.0 c.gathered-g.ensures c.job_count-n.ensures c.is_se-se.ensures in lemma_setup)) c.loop-t.s w.4 _ c.look-seen.ensures _ w.1 c.loop-t.t w.2 w.3 c.loop-t-test.true _ refl ((let lemma_may : let a = c.args in candidate_or_idle (given a.mode a.tasks.now a.jobs.now) c.loop-t.s.«record» (get_or a.schedule.now c.loop-t.t 0) ≡ true = let w = c.loop-t.invariant in sym (turn_may _ _ _ _ ((let lemma_setup : let a = c.args in Setup (given a.mode a.tasks.now a.jobs.now) c.gathered-g.result c.job_count-n.result c.is_se-se.result = made_setup _ _ _ _ c.requires.0 c.gathered-g.ensures c.job_count-n.ensures c.is_se-se.ensures in lemma_setup)) c.loop-t.s w.4 _ c.look-seen.ensures _ _ c.is_top_or_idle.ensures) ∙ c.if-is_top_or_idle.true in lemma_may)) _ c.ahead-far.ensures.ticks _ c.repeats-k.ensures _ c.ahead-far.ensures.early _ c.leap-next.ensures in lemma_turn)).room in search rules
+overflow_cast-result c = let room = ((let lemma_turn : let a = c.args in Walks (given a.mode a.tasks.now a.jobs.now) a.schedule.now c.loop-t.t c.ahead-far.result.ticks c.repeats-k.result c.leap-s.result = let w = c.loop-t.invariant in walk_turns _ _ _ _ ((let lemma_setup : let a = c.args in Setup (given a.mode a.tasks.now a.jobs.now) c.gathered-g.result c.job_count-n.result c.is_se-se.result = made_setup _ _ _ _ c.requires.0 c.gathered-g.ensures c.job_count-n.ensures c.is_se-se.ensures in lemma_setup)) c.loop-t.s w.4 _ c.look-seen.ensures _ w.1 c.loop-t.t w.2 w.3 c.loop-t-test.true _ refl ((let lemma_may : let a = c.args in candidate_or_idle (given a.mode a.tasks.now a.jobs.now) c.loop-t.s.«record» (get_or a.schedule.now c.loop-t.t 0) ≡ true = let w = c.loop-t.invariant in sym (turn_may _ _ _ _ ((let lemma_setup : let a = c.args in Setup (given a.mode a.tasks.now a.jobs.now) c.gathered-g.result c.job_count-n.result c.is_se-se.result = made_setup _ _ _ _ c.requires.0 c.gathered-g.ensures c.job_count-n.ensures c.is_se-se.ensures in lemma_setup)) c.loop-t.s w.4 _ c.look-seen.ensures _ _ c.is_top_or_idle.ensures) ∙ c.if-is_top_or_idle.true in lemma_may)) _ c.ahead-far.ensures.ticks _ c.repeats-k.ensures _ c.ahead-far.ensures.early _ c.leap-s.ensures in lemma_turn)).room in search rules
 
 pub returns-then-k-far : goal.returns-then-k-far
-returns-then-k-far c = ((let lemma_turn : let a = c.args in Walks (given a.mode a.tasks.now a.jobs.now) a.schedule.now c.loop-t.t c.ahead-far.result.ticks c.repeats-k.result c.leap-next.result = let w = c.loop-t.invariant in walk_turns _ _ _ _ ((let lemma_setup : let a = c.args in Setup (given a.mode a.tasks.now a.jobs.now) c.gathered-g.result c.job_count-n.result c.is_se-se.result = made_setup _ _ _ _ c.requires.0 c.gathered-g.ensures c.job_count-n.ensures c.is_se-se.ensures in lemma_setup)) c.loop-t.s w.4 _ c.look-seen.ensures _ w.1 c.loop-t.t w.2 w.3 c.loop-t-test.true _ refl ((let lemma_may : let a = c.args in candidate_or_idle (given a.mode a.tasks.now a.jobs.now) c.loop-t.s.«record» (get_or a.schedule.now c.loop-t.t 0) ≡ true = let w = c.loop-t.invariant in sym (turn_may _ _ _ _ ((let lemma_setup : let a = c.args in Setup (given a.mode a.tasks.now a.jobs.now) c.gathered-g.result c.job_count-n.result c.is_se-se.result = made_setup _ _ _ _ c.requires.0 c.gathered-g.ensures c.job_count-n.ensures c.is_se-se.ensures in lemma_setup)) c.loop-t.s w.4 _ c.look-seen.ensures _ _ c.is_top_or_idle.ensures) ∙ c.if-is_top_or_idle.true in lemma_may)) _ c.ahead-far.ensures.ticks _ c.repeats-k.ensures _ c.ahead-far.ensures.early _ c.leap-next.ensures in lemma_turn)).breaks c.if-k-far.true
+returns-then-k-far c = ((let lemma_turn : let a = c.args in Walks (given a.mode a.tasks.now a.jobs.now) a.schedule.now c.loop-t.t c.ahead-far.result.ticks c.repeats-k.result c.leap-s.result = let w = c.loop-t.invariant in walk_turns _ _ _ _ ((let lemma_setup : let a = c.args in Setup (given a.mode a.tasks.now a.jobs.now) c.gathered-g.result c.job_count-n.result c.is_se-se.result = made_setup _ _ _ _ c.requires.0 c.gathered-g.ensures c.job_count-n.ensures c.is_se-se.ensures in lemma_setup)) c.loop-t.s w.4 _ c.look-seen.ensures _ w.1 c.loop-t.t w.2 w.3 c.loop-t-test.true _ refl ((let lemma_may : let a = c.args in candidate_or_idle (given a.mode a.tasks.now a.jobs.now) c.loop-t.s.«record» (get_or a.schedule.now c.loop-t.t 0) ≡ true = let w = c.loop-t.invariant in sym (turn_may _ _ _ _ ((let lemma_setup : let a = c.args in Setup (given a.mode a.tasks.now a.jobs.now) c.gathered-g.result c.job_count-n.result c.is_se-se.result = made_setup _ _ _ _ c.requires.0 c.gathered-g.ensures c.job_count-n.ensures c.is_se-se.ensures in lemma_setup)) c.loop-t.s w.4 _ c.look-seen.ensures _ _ c.is_top_or_idle.ensures) ∙ c.if-is_top_or_idle.true in lemma_may)) _ c.ahead-far.ensures.ticks _ c.repeats-k.ensures _ c.ahead-far.ensures.early _ c.leap-s.ensures in lemma_turn)).breaks c.if-k-far.true
 
 pub loop-t-smaller : goal.loop-t-smaller
-loop-t-smaller c = let w = (let lemma_turn : let a = c.args in Walks (given a.mode a.tasks.now a.jobs.now) a.schedule.now c.loop-t.t c.ahead-far.result.ticks c.repeats-k.result c.leap-next.result = let w = c.loop-t.invariant in walk_turns _ _ _ _ ((let lemma_setup : let a = c.args in Setup (given a.mode a.tasks.now a.jobs.now) c.gathered-g.result c.job_count-n.result c.is_se-se.result = made_setup _ _ _ _ c.requires.0 c.gathered-g.ensures c.job_count-n.ensures c.is_se-se.ensures in lemma_setup)) c.loop-t.s w.4 _ c.look-seen.ensures _ w.1 c.loop-t.t w.2 w.3 c.loop-t-test.true _ refl ((let lemma_may : let a = c.args in candidate_or_idle (given a.mode a.tasks.now a.jobs.now) c.loop-t.s.«record» (get_or a.schedule.now c.loop-t.t 0) ≡ true = let w = c.loop-t.invariant in sym (turn_may _ _ _ _ ((let lemma_setup : let a = c.args in Setup (given a.mode a.tasks.now a.jobs.now) c.gathered-g.result c.job_count-n.result c.is_se-se.result = made_setup _ _ _ _ c.requires.0 c.gathered-g.ensures c.job_count-n.ensures c.is_se-se.ensures in lemma_setup)) c.loop-t.s w.4 _ c.look-seen.ensures _ _ c.is_top_or_idle.ensures) ∙ c.if-is_top_or_idle.true in lemma_may)) _ c.ahead-far.ensures.ticks _ c.repeats-k.ensures _ c.ahead-far.ensures.early _ c.leap-next.ensures in lemma_turn) in omega (arith, w.one, w.within)
+loop-t-smaller c = let w = (let lemma_turn : let a = c.args in Walks (given a.mode a.tasks.now a.jobs.now) a.schedule.now c.loop-t.t c.ahead-far.result.ticks c.repeats-k.result c.leap-s.result = let w = c.loop-t.invariant in walk_turns _ _ _ _ ((let lemma_setup : let a = c.args in Setup (given a.mode a.tasks.now a.jobs.now) c.gathered-g.result c.job_count-n.result c.is_se-se.result = made_setup _ _ _ _ c.requires.0 c.gathered-g.ensures c.job_count-n.ensures c.is_se-se.ensures in lemma_setup)) c.loop-t.s w.4 _ c.look-seen.ensures _ w.1 c.loop-t.t w.2 w.3 c.loop-t-test.true _ refl ((let lemma_may : let a = c.args in candidate_or_idle (given a.mode a.tasks.now a.jobs.now) c.loop-t.s.«record» (get_or a.schedule.now c.loop-t.t 0) ≡ true = let w = c.loop-t.invariant in sym (turn_may _ _ _ _ ((let lemma_setup : let a = c.args in Setup (given a.mode a.tasks.now a.jobs.now) c.gathered-g.result c.job_count-n.result c.is_se-se.result = made_setup _ _ _ _ c.requires.0 c.gathered-g.ensures c.job_count-n.ensures c.is_se-se.ensures in lemma_setup)) c.loop-t.s w.4 _ c.look-seen.ensures _ _ c.is_top_or_idle.ensures) ∙ c.if-is_top_or_idle.true in lemma_may)) _ c.ahead-far.ensures.ticks _ c.repeats-k.ensures _ c.ahead-far.ensures.early _ c.leap-s.ensures in lemma_turn) in omega (arith, w.one, w.within)
 
 pub loop-t-preserved : goal.loop-t-preserved
 loop-t-preserved c =
-    let w = (let lemma_turn : let a = c.args in Walks (given a.mode a.tasks.now a.jobs.now) a.schedule.now c.loop-t.t c.ahead-far.result.ticks c.repeats-k.result c.leap-next.result = let w = c.loop-t.invariant in walk_turns _ _ _ _ ((let lemma_setup : let a = c.args in Setup (given a.mode a.tasks.now a.jobs.now) c.gathered-g.result c.job_count-n.result c.is_se-se.result = made_setup _ _ _ _ c.requires.0 c.gathered-g.ensures c.job_count-n.ensures c.is_se-se.ensures in lemma_setup)) c.loop-t.s w.4 _ c.look-seen.ensures _ w.1 c.loop-t.t w.2 w.3 c.loop-t-test.true _ refl ((let lemma_may : let a = c.args in candidate_or_idle (given a.mode a.tasks.now a.jobs.now) c.loop-t.s.«record» (get_or a.schedule.now c.loop-t.t 0) ≡ true = let w = c.loop-t.invariant in sym (turn_may _ _ _ _ ((let lemma_setup : let a = c.args in Setup (given a.mode a.tasks.now a.jobs.now) c.gathered-g.result c.job_count-n.result c.is_se-se.result = made_setup _ _ _ _ c.requires.0 c.gathered-g.ensures c.job_count-n.ensures c.is_se-se.ensures in lemma_setup)) c.loop-t.s w.4 _ c.look-seen.ensures _ _ c.is_top_or_idle.ensures) ∙ c.if-is_top_or_idle.true in lemma_may)) _ c.ahead-far.ensures.ticks _ c.repeats-k.ensures _ c.ahead-far.ensures.early _ c.leap-next.ensures in lemma_turn) in
+    let w = (let lemma_turn : let a = c.args in Walks (given a.mode a.tasks.now a.jobs.now) a.schedule.now c.loop-t.t c.ahead-far.result.ticks c.repeats-k.result c.leap-s.result = let w = c.loop-t.invariant in walk_turns _ _ _ _ ((let lemma_setup : let a = c.args in Setup (given a.mode a.tasks.now a.jobs.now) c.gathered-g.result c.job_count-n.result c.is_se-se.result = made_setup _ _ _ _ c.requires.0 c.gathered-g.ensures c.job_count-n.ensures c.is_se-se.ensures in lemma_setup)) c.loop-t.s w.4 _ c.look-seen.ensures _ w.1 c.loop-t.t w.2 w.3 c.loop-t-test.true _ refl ((let lemma_may : let a = c.args in candidate_or_idle (given a.mode a.tasks.now a.jobs.now) c.loop-t.s.«record» (get_or a.schedule.now c.loop-t.t 0) ≡ true = let w = c.loop-t.invariant in sym (turn_may _ _ _ _ ((let lemma_setup : let a = c.args in Setup (given a.mode a.tasks.now a.jobs.now) c.gathered-g.result c.job_count-n.result c.is_se-se.result = made_setup _ _ _ _ c.requires.0 c.gathered-g.ensures c.job_count-n.ensures c.is_se-se.ensures in lemma_setup)) c.loop-t.s w.4 _ c.look-seen.ensures _ _ c.is_top_or_idle.ensures) ∙ c.if-is_top_or_idle.true in lemma_may)) _ c.ahead-far.ensures.ticks _ c.repeats-k.ensures _ c.ahead-far.ensures.early _ c.leap-s.ensures in lemma_turn) in
     let on = w.on c.if-k-far.false in
     (w.within, c.loop-t.invariant.1, on.0, on.1, w.kept)
 

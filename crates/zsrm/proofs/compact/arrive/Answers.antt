@@ -1,19 +1,6 @@
 use native.Mathlib.Omega.{arith}
 use Rattle.zsrm.proofs.Laws.Compact.{counted_came, counted_onward, onward_then}
-use borrow.Author.Rules.{rules}
 use Rattle.zsrm.proofs.compact.arrive.Goals as goal
-
-pub loop-next-init : goal.loop-next-init
-loop-next-init c = λ g all r done w e u at. at
-
-pub arrival_in-a-requires : goal.arrival_in-a-requires
-arrival_in-a-requires c = (omega arith, search rules)
-
-pub returns-then-t-a : goal.returns-then-t-a
-returns-then-t-a c = record { onward = c.loop-next.invariant; later = λ _. omega (arith, c.arrival_in-a.ensures) }
-
-pub counted-next-requires : goal.counted-next-requires
-counted-next-requires c = (omega arith, search rules)
 
 pub loop-next-smaller : goal.loop-next-smaller
 loop-next-smaller c = let q = counted_came _ _ _ c.counted-next.ensures in omega (arith, q)
@@ -23,6 +10,3 @@ loop-next-preserved c =
     let s = c.args in
     onward_then s.g.now s.n s.t _ c.loop-next.next _ c.loop-next.invariant
     (counted_onward s.g.now s.n s.t c.loop-next.next _ (omega arith) (omega arith) (omega (arith, c.arrival_in-a.ensures)) c.counted-next.ensures)
-
-pub returns : goal.returns
-returns c = record { onward = c.loop-next.invariant; later = λ l. absurd (omega arith) }

@@ -3,9 +3,6 @@ use mathlib.Core.Path.{refl}
 use Rattle.zsrm.proofs.Laws.Compact.{kept_onward}
 use Rattle.zsrm.proofs.compact.kept.Goals as goal
 
-pub returns-then-early-going : goal.returns-then-early-going
-returns-then-early-going c x r done w few u at = at
-
 pub returns : goal.returns
 returns c =
     let s = c.args in

@@ -1,14 +1,9 @@
 -- Where a job is still to come, the next one counts.
 use Prim.Native.Nat.{ℕ}
 use mathlib.Core.Path.{ap, ◌∙◌}
-use native.Mathlib.Omega.{arith}
 use borrow.Author.Tests.{le-ltb, lt-ltb}
 use Rattle.zsrm.specs.Code.Gathered.{arrival_gap, until}
-use borrow.Author.Rules.{rules}
 use Rattle.zsrm.proofs.gap.arrival_gap.Goals as goal
-
-pub arrival_in-next-requires : goal.arrival_in-next-requires
-arrival_in-next-requires c = (omega arith, search rules)
 
 pub returns-then-came-n : goal.returns-then-came-n
 unfolding arrival_gap

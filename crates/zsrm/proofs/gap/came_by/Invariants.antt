@@ -1,5 +1,4 @@
 -- No job from the first on and below j is still to come.
-use Prim.Native.Nat.{◌-◌, ◌≤◌}
 use mathlib.Core.Bool.{false, ◌&&◌}
 use mathlib.Core.Path.{◌≡◌}
 use lib.Dec.{leb, ltb}
@@ -8,7 +7,4 @@ use Rattle.zsrm.specs.Code.Gathered.{arrival_in}
 use Rattle.zsrm.proofs.gap.came_by.Given as goal
 
 abbrev pub invariant-loop-j : goal.invariant-loop-j
-invariant-loop-j l = (l.first ≤ l.j) × (l.j ≤ l.n) × (some l.j (λ i. leb l.first i && ltb l.t (arrival_in l.g i)) ≡ false)
-
-abbrev pub decreases-loop-j : goal.decreases-loop-j
-decreases-loop-j l = l.n - l.j
+invariant-loop-j l = some l.j (λ i. leb l.first i && ltb l.t (arrival_in l.g i)) ≡ false

@@ -1,17 +1,9 @@
 -- Where the entry is a job, its end counts, and in SE its nominal time.
 use Prim.Native.Nat.{ℕ}
 use mathlib.Core.Path.{ap, ap₂, ◌∙◌}
-use native.Mathlib.Omega.{arith}
 use borrow.Author.Tests.{le-ltb, lt-ltb}
 use Rattle.zsrm.specs.Code.Gathered.{run_gap, until}
-use borrow.Author.Rules.{rules}
 use Rattle.zsrm.proofs.gap.run_gap.Goals as goal
-
-pub execution_in-c-requires : goal.execution_in-c-requires
-execution_in-c-requires c = (omega arith, search rules)
-
-pub nominal_in-nominal-requires : goal.nominal_in-nominal-requires
-nominal_in-nominal-requires c = (omega arith, search rules)
 
 pub returns-then-se : goal.returns-then-se
 unfolding run_gap

@@ -4,8 +4,5 @@ use Rattle.bits.proofs.Laws.Sweep.{Swept, word_to}
 use Rattle.zsrm.specs.Code.Gathered.{slack_in, slack_gap}
 use Rattle.zsrm.proofs.gap.slack_gap.Given as goal
 
-abbrev pub invariant-loop-rest : goal.invariant-loop-rest
-invariant-loop-rest l = Swept (slack_gap l.g l.early l.t l.most) l.early l.rest l.ticks × Swept (word_to (λ i. ltb l.t (slack_in l.g i)) l.early) l.early l.rest l.still
-
-abbrev pub decreases-loop-rest : goal.decreases-loop-rest
-decreases-loop-rest l = l.rest
+abbrev pub invariant-loop-j : goal.invariant-loop-j
+invariant-loop-j l = Swept (slack_gap l.g l.early l.t l.most) l.early l.j-iterator.rest l.ticks × Swept (word_to (λ i. ltb l.t (slack_in l.g i)) l.early) l.early l.j-iterator.rest l.still

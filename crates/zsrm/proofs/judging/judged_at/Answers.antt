@@ -1,19 +1,19 @@
 -- What the checks answer decides: the verdict by the standing, or the refusal.
 use Prim.Native.Nat.{ℕ}
-use mathlib.Core.Path.{ap, sym, ◌∙◌}
-use Rattle.tables.specs.Refusals.{before}
-use Rattle.tables.specs.declared.answers.Outcome.{Outcome}
+use mathlib.Core.Path.{ap, refl, sym, ◌∙◌}
 use Rattle.zsrm.specs.Verdict.{judged}
-use Rattle.tables.proofs.Laws.Refusals.{unless_done, unless_refused}
+use Rattle.tables.proofs.Laws.Refusals.{before_passes, before_stops, gives_answer, stops_answer}
 use Rattle.zsrm.proofs.judging.judged_at.Goals as goal
 
-pub returns-in-Done : goal.returns-in-Done
-returns-in-Done c =
-    let a = c.args in
-    c.judge_standing-verdict.ensures ∙ ap (λ (due : ℕ). judged due a.t a.standing) c.deadline_instant.ensures
-    ∙ sym (unless_done _ _ _ (sym (c.before-all.ensures ∙ ap (λ (o : Outcome). before a.checked o) c.check13.ensures) ∙ c.in-Done.is))
+pub returns-in_err-checked : goal.returns-in_err-checked
+returns-in_err-checked c = stops_answer _ _ refl (before_stops _ _ _ _ c.in_err-checked.was) c.from_residual.ensures.1
 
-pub returns-in-Refused : goal.returns-in-Refused
-returns-in-Refused c =
+pub returns-in_err-check13 : goal.returns-in_err-check13
+returns-in_err-check13 c =
+    stops_answer _ _ refl (before_passes _ _ c.in_ok-checked.was ∙ sym c.check13.ensures ∙ c.in_err-check13.was) c.from_residual-in_err-check13.ensures.1
+
+pub returns : goal.returns
+returns c =
     let a = c.args in
-    sym (unless_refused _ _ _ _ _ (sym (c.before-all.ensures ∙ ap (λ (o : Outcome). before a.checked o) c.check13.ensures) ∙ c.in-Refused.is))
+    gives_answer _ _ refl (before_passes _ _ c.in_ok-checked.was ∙ sym c.check13.ensures ∙ c.in_ok-check13.was)
+    (c.judge_standing.ensures ∙ ap (λ (due : ℕ). judged due a.t a.standing) c.deadline_instant.ensures)

@@ -5,8 +5,5 @@ use Rattle.bits.proofs.Laws.Sweep.{Swept, word_to, keys_to}
 use Rattle.zsrm.specs.Code.Gathered.{criticality_in, priority_in}
 use Rattle.zsrm.proofs.look.held_of.Given as goal
 
-abbrev pub invariant-loop-rest : goal.invariant-loop-rest
-invariant-loop-rest l = Swept (word_to (λ i. ltb (criticality_in l.g i) l.c.0) l.among) l.among l.rest l.jobs × Swept (keys_to (λ i. not (ltb (criticality_in l.g i) l.c.0)) l.among (priority_in l.g)) l.among l.rest l.ready
-
-abbrev pub decreases-loop-rest : goal.decreases-loop-rest
-decreases-loop-rest l = l.rest
+abbrev pub invariant-loop-j : goal.invariant-loop-j
+invariant-loop-j l = Swept (word_to (λ i. ltb (criticality_in l.g i) l.c.0) l.among) l.among l.j-iterator.rest l.jobs × Swept (keys_to (λ i. not (ltb (criticality_in l.g i) l.c.0)) l.among (priority_in l.g)) l.among l.j-iterator.rest l.ready

@@ -2,28 +2,21 @@ use Prim.Native.Nat.{ℕ}
 use mathlib.Core.Path.{ap, ◌∙◌}
 use native.Mathlib.Omega.{arith}
 use lib.Dec.{ltb}
-use Rattle.bits.proofs.Laws.Sweep.{word_start, word_on, word_end, swept_below}
+use Rattle.bits.proofs.Laws.Sweep.{word_start, word_on, word_end}
 use Rattle.zsrm.specs.Code.Gathered.{criticality_in, less_in}
-use Rattle.zsrm.proofs.Laws.Gathered.{sweep_less}
-use borrow.Author.Rules.{rules}
 use Rattle.zsrm.proofs.look.less_critical_word.Goals as goal
 
-pub loop-rest-init : goal.loop-rest-init
-loop-rest-init c = let s = c.args in word_start (λ i. ltb (criticality_in s.g.now i) s.c.0) s.among c.ranges.among.fits
+pub loop-j-init : goal.loop-j-init
+loop-j-init c = let s = c.args in rw (c.into_iter-j-iterator.ensures.into_iter_gives, c.each-j-items.ensures)
+    (word_start (λ i. ltb (criticality_in s.g.now i) s.c.0) s.among c.ranges.among.fits)
 
-pub criticality_in-requires : goal.criticality_in-requires
-criticality_in-requires c = (swept_below _ _ _ _ _ c.loop-rest.invariant (omega arith) c.lowest-j.ensures, search rules)
-
-pub loop-rest-smaller : goal.loop-rest-smaller
-loop-rest-smaller c = sweep_less _ _ _ _ _ c.loop-rest.invariant (omega arith) c.without_lowest-rest.ensures
-
-pub loop-rest-preserved : goal.loop-rest-preserved
-loop-rest-preserved c =
+pub loop-j-preserved : goal.loop-j-preserved
+loop-j-preserved c =
     let s = c.args in
-    word_on (λ i. ltb (criticality_in s.g.now i) s.c.0) s.among c.loop-rest.rest _ c.loop-rest.jobs _ _ _ c.loop-rest.invariant (omega arith) c.lowest-j.ensures
-    c.without_lowest-rest.ensures
+    word_on (λ i. ltb (criticality_in s.g.now i) s.c.0) s.among c.loop-j.j-iterator.rest _ c.loop-j.jobs _ _ _ c.loop-j.invariant c.in-Some.ensures.steps.some c.in-Some.ensures.steps.lowest
+    c.in-Some.ensures.steps.left
     (c.exceeds-less.ensures ∙ ap (λ (x : ℕ). ltb x s.c.0) c.criticality_in.ensures) c.with_bit_if-jobs.ensures
 
 pub returns : goal.returns
 unfolding less_in
-returns c = let s = c.args in word_end (λ i. ltb (criticality_in s.g.now i) s.c.0) s.among c.loop-rest.rest _ c.loop-rest.invariant (omega arith)
+returns c = let s = c.args in word_end (λ i. ltb (criticality_in s.g.now i) s.c.0) s.among c.loop-j.j-iterator.rest _ c.loop-j.invariant (omega (arith, c.in-None.ensures.steps.0))

@@ -4,8 +4,5 @@ use Rattle.bits.proofs.Laws.Sweep.{Swept, word_to}
 use Rattle.zsrm.specs.Code.Gathered.{criticality_in}
 use Rattle.zsrm.proofs.look.less_critical_word.Given as goal
 
-abbrev pub invariant-loop-rest : goal.invariant-loop-rest
-invariant-loop-rest l = Swept (word_to (λ i. ltb (criticality_in l.g i) l.c.0) l.among) l.among l.rest l.jobs
-
-abbrev pub decreases-loop-rest : goal.decreases-loop-rest
-decreases-loop-rest l = l.rest
+abbrev pub invariant-loop-j : goal.invariant-loop-j
+invariant-loop-j l = Swept (word_to (λ i. ltb (criticality_in l.g i) l.c.0) l.among) l.among l.j-iterator.rest l.jobs

@@ -2,15 +2,10 @@
 use Prim.Native.Nat.{ℕ}
 use mathlib.Core.Bool.{Bool, ◌&&◌}
 use mathlib.Core.Path.{ap, ap₂, ◌∙◌}
-use native.Mathlib.Omega.{arith}
 use lib.Dec.{eqb}
 use borrow.Author.Tests.{le-ltb, lt-ltb}
 use Rattle.zsrm.specs.Code.Gathered.{may_run_in, level_in}
-use borrow.Author.Rules.{rules}
 use Rattle.zsrm.proofs.look.may_run.Goals as goal
-
-pub priority_in-its-requires : goal.priority_in-its-requires
-priority_in-its-requires c = (omega arith, search rules)
 
 pub returns-then-entry-n : goal.returns-then-entry-n
 unfolding may_run_in level_in

@@ -13,8 +13,5 @@ use Rattle.zsrm.proofs.look.most_over.Given as goal
 abbrev test : List ℕ → Record → ℕ → ℕ → Bool
 test g r e i = ltb (nominal_in g i) (done_at r i + cond (eqb e i) 1 0)
 
-abbrev pub invariant-loop-rest : goal.invariant-loop-rest
-invariant-loop-rest l = Swept (most_to (test l.g l.rec l.entry) l.among (criticality_in l.g)) l.among l.rest l.most.0
-
-abbrev pub decreases-loop-rest : goal.decreases-loop-rest
-decreases-loop-rest l = l.rest
+abbrev pub invariant-loop-j : goal.invariant-loop-j
+invariant-loop-j l = Swept (most_to (test l.g l.rec l.entry) l.among (criticality_in l.g)) l.among l.j-iterator.rest l.most.0

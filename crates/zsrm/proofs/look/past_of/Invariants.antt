@@ -4,8 +4,5 @@ use Rattle.bits.proofs.Laws.Sweep.{Swept, word_to, most_to}
 use Rattle.zsrm.specs.Code.Gathered.{slack_in, criticality_in}
 use Rattle.zsrm.proofs.look.past_of.Given as goal
 
-abbrev pub invariant-loop-rest : goal.invariant-loop-rest
-invariant-loop-rest l = Swept (word_to (λ i. leb (slack_in l.g i) l.t) l.among) l.among l.rest l.jobs × Swept (most_to (λ i. leb (slack_in l.g i) l.t) l.among (criticality_in l.g)) l.among l.rest l.most.0
-
-abbrev pub decreases-loop-rest : goal.decreases-loop-rest
-decreases-loop-rest l = l.rest
+abbrev pub invariant-loop-j : goal.invariant-loop-j
+invariant-loop-j l = Swept (word_to (λ i. leb (slack_in l.g i) l.t) l.among) l.among l.j-iterator.rest l.jobs × Swept (most_to (λ i. leb (slack_in l.g i) l.t) l.among (criticality_in l.g)) l.among l.j-iterator.rest l.most.0

@@ -5,8 +5,5 @@ use Rattle.zsrm.specs.Code.Masks.{less_of}
 use Rattle.zsrm.proofs.Laws.Masks.{sweep_to}
 use Rattle.zsrm.proofs.masks.held_by.Given as goal
 
-abbrev pub invariant-loop-rest : goal.invariant-loop-rest
-invariant-loop-rest l = Swept (sweep_to (λ _. true) (less_of l.masks l.g) l.among) l.among l.rest l.held
-
-abbrev pub decreases-loop-rest : goal.decreases-loop-rest
-decreases-loop-rest l = l.rest
+abbrev pub invariant-loop-j : goal.invariant-loop-j
+invariant-loop-j l = Swept (sweep_to (λ _. true) (less_of l.masks l.g) l.among) l.among l.j-iterator.rest l.held

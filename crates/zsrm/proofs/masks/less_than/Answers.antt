@@ -1,26 +1,15 @@
-use Prim.Native.Nat.{ℕ}
 use mathlib.Core.Bool.{Bool, cond}
-use mathlib.Core.Path.{◌≡◌, refl, ap, ◌∙◌}
-use native.Mathlib.Omega.{arith}
+use mathlib.Core.Path.{refl, ap, ◌∙◌}
 use lib.ListN.{get_or}
-use Rattle.zsrm.specs.Code.Masks.{join, less_than}
+use Rattle.zsrm.specs.Code.Masks.{join}
 use Rattle.zsrm.proofs.Laws.Masks.{less_none, less_more}
-use borrow.Author.Rules.{rules}
 use Rattle.zsrm.proofs.masks.less_than.Goals as goal
 
 pub loop-m-init : goal.loop-m-init
-loop-m-init c = let s = c.args in (omega arith, less_none s.of.now s.words.now s.c.0)
-
-pub criticality_at-its-requires : goal.criticality_at-its-requires
-criticality_at-its-requires c = (omega arith, search rules)
+loop-m-init c = let s = c.args in less_none s.of.now s.words.now s.c.0
 
 pub loop-m-preserved : goal.loop-m-preserved
 loop-m-preserved c =
-    let s = c.args in (
-      omega arith,
-      less_more s.of.now s.words.now s.c.0 c.loop-m.m c.loop-m.jobs _ _ _ c.loop-m.invariant.1 c.criticality_at-its.ensures refl
-          (c.join_word_if-jobs.ensures ∙ ap (λ (b : Bool). cond b (join c.loop-m.jobs (get_or s.words.now c.loop-m.m 0)) c.loop-m.jobs) c.exceeds.ensures),
-    )
-
-pub returns : goal.returns
-returns c = let s = c.args in c.loop-m.invariant.1 ∙ ap (λ (x : ℕ). less_than s.of.now s.words.now x s.c.0) (let e : c.loop-m.m ≡ s.n = omega arith in e)
+    let s = c.args in
+    less_more s.of.now s.words.now s.c.0 c.loop-m.m c.loop-m.jobs _ _ _ c.loop-m.invariant c.criticality_at-its.ensures refl
+    (c.join_word_if-jobs.ensures ∙ ap (λ (b : Bool). cond b (join c.loop-m.jobs (get_or s.words.now c.loop-m.m 0)) c.loop-m.jobs) c.exceeds.ensures)

@@ -3,7 +3,6 @@ use mathlib.Core.Path.{◌≡◌, refl, subst, sym, ap, ap₂, ◌∙◌}
 use native.Mathlib.Omega.{arith}
 use lib.ListN.{length, replicate}
 use lib.Seq.{take_all}
-use borrow.Author.Rules.{rules}
 use Rattle.bits.proofs.Laws.Lists.{sets_length}
 use Rattle.tables.proofs.Laws.Accepted.{lists_few}
 use Rattle.zsrm.specs.declared.record.Record.{Record}
@@ -26,7 +25,7 @@ record Lies (t k into claimed : ℕ) : Type 0 where
   short : into ≤ 16384
 
 pub started-s-requires : goal.started-s-requires
-started-s-requires c = (let lemma_few : (c.job_count-n.result ≤ 64) × (length c.gathered-g.result ≡ 320) = (omega (arith, c.job_count-n.ensures, lists_few _ c.requires.jobs_value.0), c.gathered-g.ensures.size) in lemma_few)
+started-s-requires c = omega (arith, c.job_count-n.ensures, lists_few _ c.requires.jobs_value.0)
 
 pub keeps_previous-keeps-requires : goal.keeps_previous-keeps-requires
 keeps_previous-keeps-requires c = lists_few _ c.requires.jobs_value.0
@@ -45,17 +44,14 @@ loop-t-init c =
       λ l. c.keeps_previous-keeps.ensures ∙ ap (keeps_previous x) (sym began),
     )
 
-pub look-seen-requires : goal.look-seen-requires
-look-seen-requires c = ((let lemma_few : (c.job_count-n.result ≤ 64) × (length c.gathered-g.result ≡ 320) = (omega (arith, c.job_count-n.ensures, lists_few _ c.requires.jobs_value.0), c.gathered-g.ensures.size) in lemma_few)).1
-
 pub choice-lowest-requires : goal.choice-lowest-requires
-choice-lowest-requires c = (let lemma_few : (c.job_count-n.result ≤ 64) × (length c.gathered-g.result ≡ 320) = (omega (arith, c.job_count-n.ensures, lists_few _ c.requires.jobs_value.0), c.gathered-g.ensures.size) in lemma_few)
+choice-lowest-requires c = omega (arith, c.job_count-n.ensures, lists_few _ c.requires.jobs_value.0)
 
 pub overflow_cast-most : goal.overflow_cast-most
 overflow_cast-most c = omega (arith, c.requires.mendable.1, c.loop-t.invariant.1)
 
 pub ahead-far-requires : goal.ahead-far-requires
-ahead-far-requires c = (let lemma_few : (c.job_count-n.result ≤ 64) × (length c.gathered-g.result ≡ 320) = (omega (arith, c.job_count-n.ensures, lists_few _ c.requires.jobs_value.0), c.gathered-g.ensures.size) in lemma_few)
+ahead-far-requires c = omega (arith, c.job_count-n.ensures, lists_few _ c.requires.jobs_value.0)
 
 pub overflow_add-end : goal.overflow_add-end
 overflow_add-end c = omega (arith, ((let lemma_lies : Lies c.loop-t.t c.ahead-far.result.ticks (length c.loop-t.into) (length c.args.claimed.now) = let w = (let lemma_turn : Stretch (given c.args.mode c.args.tasks.now c.args.jobs.now) c.started-s.result.«record» c.loop-t.t c.gathered-g.result c.job_count-n.result c.is_se-se.result c.loop-t.s c.look-seen.result c.kept_or-chosen.result (length c.loop-t.into - c.loop-t.t) c.ahead-far.result.ticks = let began = started_record _ _ c.args.start _ c.started-s.ensures in let z = made_setup (given c.args.mode c.args.tasks.now c.args.jobs.now) _ _ _ c.requires.jobs_value.0 c.gathered-g.ensures c.job_count-n.ensures c.is_se-se.ensures in let more : c.loop-t.t < length c.loop-t.into = c.loop-t-test.true in made_stretch (given c.args.mode c.args.tasks.now c.args.jobs.now) _ _ _ _ _ c.loop-t.s _ _ _ _ z (subst (Mendable (given c.args.mode c.args.tasks.now c.args.jobs.now)) (sym began) c.requires.mendable.0) c.loop-t.invariant.3 c.loop-t.invariant.2 c.look-seen.ensures _ c.choice-lowest.ensures _ (c.loop-t.invariant.6 (omega (arith, more, c.loop-t.invariant.1))) c.kept_or-chosen.ensures (omega (arith, more)) (omega (arith, more, c.loop-t.invariant.1, ap (λ (r : Record). r.tick) began, c.requires.mendable.1)) c.ahead-far.ensures.ticks in lemma_turn) in record { mine = omega (arith, w.within, w.some); theirs = omega (arith, w.within, w.some, c.loop-t.invariant.1, c.requires.jobs_value.1); short = omega (arith, c.loop-t.invariant.1, c.requires.mendable.1) } in lemma_lies)).mine, ((let lemma_lies : Lies c.loop-t.t c.ahead-far.result.ticks (length c.loop-t.into) (length c.args.claimed.now) = let w = (let lemma_turn : Stretch (given c.args.mode c.args.tasks.now c.args.jobs.now) c.started-s.result.«record» c.loop-t.t c.gathered-g.result c.job_count-n.result c.is_se-se.result c.loop-t.s c.look-seen.result c.kept_or-chosen.result (length c.loop-t.into - c.loop-t.t) c.ahead-far.result.ticks = let began = started_record _ _ c.args.start _ c.started-s.ensures in let z = made_setup (given c.args.mode c.args.tasks.now c.args.jobs.now) _ _ _ c.requires.jobs_value.0 c.gathered-g.ensures c.job_count-n.ensures c.is_se-se.ensures in let more : c.loop-t.t < length c.loop-t.into = c.loop-t-test.true in made_stretch (given c.args.mode c.args.tasks.now c.args.jobs.now) _ _ _ _ _ c.loop-t.s _ _ _ _ z (subst (Mendable (given c.args.mode c.args.tasks.now c.args.jobs.now)) (sym began) c.requires.mendable.0) c.loop-t.invariant.3 c.loop-t.invariant.2 c.look-seen.ensures _ c.choice-lowest.ensures _ (c.loop-t.invariant.6 (omega (arith, more, c.loop-t.invariant.1))) c.kept_or-chosen.ensures (omega (arith, more)) (omega (arith, more, c.loop-t.invariant.1, ap (λ (r : Record). r.tick) began, c.requires.mendable.1)) c.ahead-far.ensures.ticks in lemma_turn) in record { mine = omega (arith, w.within, w.some); theirs = omega (arith, w.within, w.some, c.loop-t.invariant.1, c.requires.jobs_value.1); short = omega (arith, c.loop-t.invariant.1, c.requires.mendable.1) } in lemma_lies)).short)
@@ -77,11 +73,8 @@ count_others-others-requires c =
 pub fill-requires : goal.fill-requires
 fill-requires c = ((let lemma_lies : Lies c.loop-t.t c.ahead-far.result.ticks (length c.loop-t.into) (length c.args.claimed.now) = let w = (let lemma_turn : Stretch (given c.args.mode c.args.tasks.now c.args.jobs.now) c.started-s.result.«record» c.loop-t.t c.gathered-g.result c.job_count-n.result c.is_se-se.result c.loop-t.s c.look-seen.result c.kept_or-chosen.result (length c.loop-t.into - c.loop-t.t) c.ahead-far.result.ticks = let began = started_record _ _ c.args.start _ c.started-s.ensures in let z = made_setup (given c.args.mode c.args.tasks.now c.args.jobs.now) _ _ _ c.requires.jobs_value.0 c.gathered-g.ensures c.job_count-n.ensures c.is_se-se.ensures in let more : c.loop-t.t < length c.loop-t.into = c.loop-t-test.true in made_stretch (given c.args.mode c.args.tasks.now c.args.jobs.now) _ _ _ _ _ c.loop-t.s _ _ _ _ z (subst (Mendable (given c.args.mode c.args.tasks.now c.args.jobs.now)) (sym began) c.requires.mendable.0) c.loop-t.invariant.3 c.loop-t.invariant.2 c.look-seen.ensures _ c.choice-lowest.ensures _ (c.loop-t.invariant.6 (omega (arith, more, c.loop-t.invariant.1))) c.kept_or-chosen.ensures (omega (arith, more)) (omega (arith, more, c.loop-t.invariant.1, ap (λ (r : Record). r.tick) began, c.requires.mendable.1)) c.ahead-far.ensures.ticks in lemma_turn) in record { mine = omega (arith, w.within, w.some); theirs = omega (arith, w.within, w.some, c.loop-t.invariant.1, c.requires.jobs_value.1); short = omega (arith, c.loop-t.invariant.1, c.requires.mendable.1) } in lemma_lies)).mine
 
-pub slice_bounds-leap-end : goal.slice_bounds-leap-end
-slice_bounds-leap-end c = let size = ((let lemma_few : (c.job_count-n.result ≤ 64) × (length c.gathered-g.result ≡ 320) = (omega (arith, c.job_count-n.ensures, lists_few _ c.requires.jobs_value.0), c.gathered-g.ensures.size) in lemma_few)).1 in search rules
-
-pub leap-next-requires : goal.leap-next-requires
-leap-next-requires c =
+pub leap-s-requires : goal.leap-s-requires
+leap-s-requires c =
     let both = stretch_fits _ _ _ _ _ _ _ _ _ _ _ ((let lemma_turn : Stretch (given c.args.mode c.args.tasks.now c.args.jobs.now) c.started-s.result.«record» c.loop-t.t c.gathered-g.result c.job_count-n.result c.is_se-se.result c.loop-t.s c.look-seen.result c.kept_or-chosen.result (length c.loop-t.into - c.loop-t.t) c.ahead-far.result.ticks = let began = started_record _ _ c.args.start _ c.started-s.ensures in let z = made_setup (given c.args.mode c.args.tasks.now c.args.jobs.now) _ _ _ c.requires.jobs_value.0 c.gathered-g.ensures c.job_count-n.ensures c.is_se-se.ensures in let more : c.loop-t.t < length c.loop-t.into = c.loop-t-test.true in made_stretch (given c.args.mode c.args.tasks.now c.args.jobs.now) _ _ _ _ _ c.loop-t.s _ _ _ _ z (subst (Mendable (given c.args.mode c.args.tasks.now c.args.jobs.now)) (sym began) c.requires.mendable.0) c.loop-t.invariant.3 c.loop-t.invariant.2 c.look-seen.ensures _ c.choice-lowest.ensures _ (c.loop-t.invariant.6 (omega (arith, more, c.loop-t.invariant.1))) c.kept_or-chosen.ensures (omega (arith, more)) (omega (arith, more, c.loop-t.invariant.1, ap (λ (r : Record). r.tick) began, c.requires.mendable.1)) c.ahead-far.ensures.ticks in lemma_turn)) in
     record { n_bound = both.0; k_bound = both.1 }
 
@@ -97,14 +90,14 @@ pub loop-t-preserved : goal.loop-t-preserved
 loop-t-preserved c =
     let w = (let lemma_turn : Stretch (given c.args.mode c.args.tasks.now c.args.jobs.now) c.started-s.result.«record» c.loop-t.t c.gathered-g.result c.job_count-n.result c.is_se-se.result c.loop-t.s c.look-seen.result c.kept_or-chosen.result (length c.loop-t.into - c.loop-t.t) c.ahead-far.result.ticks = let began = started_record _ _ c.args.start _ c.started-s.ensures in let z = made_setup (given c.args.mode c.args.tasks.now c.args.jobs.now) _ _ _ c.requires.jobs_value.0 c.gathered-g.ensures c.job_count-n.ensures c.is_se-se.ensures in let more : c.loop-t.t < length c.loop-t.into = c.loop-t-test.true in made_stretch (given c.args.mode c.args.tasks.now c.args.jobs.now) _ _ _ _ _ c.loop-t.s _ _ _ _ z (subst (Mendable (given c.args.mode c.args.tasks.now c.args.jobs.now)) (sym began) c.requires.mendable.0) c.loop-t.invariant.3 c.loop-t.invariant.2 c.look-seen.ensures _ c.choice-lowest.ensures _ (c.loop-t.invariant.6 (omega (arith, more, c.loop-t.invariant.1))) c.kept_or-chosen.ensures (omega (arith, more)) (omega (arith, more, c.loop-t.invariant.1, ap (λ (r : Record). r.tick) began, c.requires.mendable.1)) c.ahead-far.ensures.ticks in lemma_turn) in
     let l = (let lemma_lies : Lies c.loop-t.t c.ahead-far.result.ticks (length c.loop-t.into) (length c.args.claimed.now) = let w = (let lemma_turn : Stretch (given c.args.mode c.args.tasks.now c.args.jobs.now) c.started-s.result.«record» c.loop-t.t c.gathered-g.result c.job_count-n.result c.is_se-se.result c.loop-t.s c.look-seen.result c.kept_or-chosen.result (length c.loop-t.into - c.loop-t.t) c.ahead-far.result.ticks = let began = started_record _ _ c.args.start _ c.started-s.ensures in let z = made_setup (given c.args.mode c.args.tasks.now c.args.jobs.now) _ _ _ c.requires.jobs_value.0 c.gathered-g.ensures c.job_count-n.ensures c.is_se-se.ensures in let more : c.loop-t.t < length c.loop-t.into = c.loop-t-test.true in made_stretch (given c.args.mode c.args.tasks.now c.args.jobs.now) _ _ _ _ _ c.loop-t.s _ _ _ _ z (subst (Mendable (given c.args.mode c.args.tasks.now c.args.jobs.now)) (sym began) c.requires.mendable.0) c.loop-t.invariant.3 c.loop-t.invariant.2 c.look-seen.ensures _ c.choice-lowest.ensures _ (c.loop-t.invariant.6 (omega (arith, more, c.loop-t.invariant.1))) c.kept_or-chosen.ensures (omega (arith, more)) (omega (arith, more, c.loop-t.invariant.1, ap (λ (r : Record). r.tick) began, c.requires.mendable.1)) c.ahead-far.ensures.ticks in lemma_turn) in record { mine = omega (arith, w.within, w.some); theirs = omega (arith, w.within, w.some, c.loop-t.invariant.1, c.requires.jobs_value.1); short = omega (arith, c.loop-t.invariant.1, c.requires.mendable.1) } in lemma_lies) in
-    let next = stretch_next _ _ _ _ _ _ _ _ _ _ _ w _ c.ahead-far.ensures.early _ c.leap-next.ensures in (
+    let next = stretch_next _ _ _ _ _ _ _ _ _ _ _ w _ c.ahead-far.ensures.early _ c.leap-s.ensures in (
       omega (arith, l.mine, c.loop-t.invariant.1),
       sets_length c.loop-t.into (replicate c.ahead-far.result.ticks _) c.loop-t.t c.fill.ensures ∙ c.loop-t.invariant.1,
       next.0,
       next.1,
       stretch_fills _ _ _ _ _ _ _ _ _ _ _ w c.loop-t.into _ c.loop-t.invariant.4 l.mine c.fill.ensures,
       (let lemma_counted : Compared (given c.args.mode c.args.tasks.now c.args.jobs.now) c.started-s.result.«record» c.args.claimed.now (c.loop-t.changed + c.count_others-others.result) (c.loop-t.t + c.ahead-far.result.ticks) = stretch_counts _ _ _ _ _ _ _ _ _ _ _ ((let lemma_turn : Stretch (given c.args.mode c.args.tasks.now c.args.jobs.now) c.started-s.result.«record» c.loop-t.t c.gathered-g.result c.job_count-n.result c.is_se-se.result c.loop-t.s c.look-seen.result c.kept_or-chosen.result (length c.loop-t.into - c.loop-t.t) c.ahead-far.result.ticks = let began = started_record _ _ c.args.start _ c.started-s.ensures in let z = made_setup (given c.args.mode c.args.tasks.now c.args.jobs.now) _ _ _ c.requires.jobs_value.0 c.gathered-g.ensures c.job_count-n.ensures c.is_se-se.ensures in let more : c.loop-t.t < length c.loop-t.into = c.loop-t-test.true in made_stretch (given c.args.mode c.args.tasks.now c.args.jobs.now) _ _ _ _ _ c.loop-t.s _ _ _ _ z (subst (Mendable (given c.args.mode c.args.tasks.now c.args.jobs.now)) (sym began) c.requires.mendable.0) c.loop-t.invariant.3 c.loop-t.invariant.2 c.look-seen.ensures _ c.choice-lowest.ensures _ (c.loop-t.invariant.6 (omega (arith, more, c.loop-t.invariant.1))) c.kept_or-chosen.ensures (omega (arith, more)) (omega (arith, more, c.loop-t.invariant.1, ap (λ (r : Record). r.tick) began, c.requires.mendable.1)) c.ahead-far.ensures.ticks in lemma_turn)) c.args.claimed.now c.loop-t.changed _ c.loop-t.invariant.5 ((let lemma_lies : Lies c.loop-t.t c.ahead-far.result.ticks (length c.loop-t.into) (length c.args.claimed.now) = let w = (let lemma_turn : Stretch (given c.args.mode c.args.tasks.now c.args.jobs.now) c.started-s.result.«record» c.loop-t.t c.gathered-g.result c.job_count-n.result c.is_se-se.result c.loop-t.s c.look-seen.result c.kept_or-chosen.result (length c.loop-t.into - c.loop-t.t) c.ahead-far.result.ticks = let began = started_record _ _ c.args.start _ c.started-s.ensures in let z = made_setup (given c.args.mode c.args.tasks.now c.args.jobs.now) _ _ _ c.requires.jobs_value.0 c.gathered-g.ensures c.job_count-n.ensures c.is_se-se.ensures in let more : c.loop-t.t < length c.loop-t.into = c.loop-t-test.true in made_stretch (given c.args.mode c.args.tasks.now c.args.jobs.now) _ _ _ _ _ c.loop-t.s _ _ _ _ z (subst (Mendable (given c.args.mode c.args.tasks.now c.args.jobs.now)) (sym began) c.requires.mendable.0) c.loop-t.invariant.3 c.loop-t.invariant.2 c.look-seen.ensures _ c.choice-lowest.ensures _ (c.loop-t.invariant.6 (omega (arith, more, c.loop-t.invariant.1))) c.kept_or-chosen.ensures (omega (arith, more)) (omega (arith, more, c.loop-t.invariant.1, ap (λ (r : Record). r.tick) began, c.requires.mendable.1)) c.ahead-far.ensures.ticks in lemma_turn) in record { mine = omega (arith, w.within, w.some); theirs = omega (arith, w.within, w.some, c.loop-t.invariant.1, c.requires.jobs_value.1); short = omega (arith, c.loop-t.invariant.1, c.requires.mendable.1) } in lemma_lies)).theirs c.count_others-others.ensures in lemma_counted),
-      λ b. stretch_ends _ _ _ _ _ _ _ _ _ _ _ w _ c.ahead-far.ensures.early _ c.leap-next.ensures (omega (arith, b, l.mine, c.loop-t.invariant.1)),
+      λ b. stretch_ends _ _ _ _ _ _ _ _ _ _ _ w _ c.ahead-far.ensures.early _ c.leap-s.ensures (omega (arith, b, l.mine, c.loop-t.invariant.1)),
     )
 
 pub shape_of-into : goal.shape_of-into

@@ -1,5 +1,4 @@
 -- The places below j are fresh.
-use Prim.Native.Nat.{◌-◌, ◌≤◌}
 use mathlib.Core.Path.{◌≡◌}
 use Rattle.bits.proofs.Laws.Arrays.{Written}
 use Rattle.tables.specs.Tables.{idle}
@@ -7,7 +6,4 @@ use Rattle.zsrm.specs.Record.{empty, blank, fresh_place}
 use Rattle.zsrm.proofs.record.fresh_record.Given as goal
 
 abbrev pub invariant-loop-j : goal.invariant-loop-j
-invariant-loop-j l = (l.j ≤ 64) × (l.out.tick ≡ 0) × (l.out.previous ≡ idle) × Written empty (fresh_place l.jobs) blank.places l.out.places 64 l.j
-
-abbrev pub decreases-loop-j : goal.decreases-loop-j
-decreases-loop-j l = 64 - l.j
+invariant-loop-j l = (l.out.tick ≡ 0) × (l.out.previous ≡ idle) × Written empty (fresh_place l.jobs) blank.places l.out.places 64 l.j

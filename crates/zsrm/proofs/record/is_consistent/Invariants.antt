@@ -1,5 +1,4 @@
 -- The loop has gathered whether every place below j is sound.
-use Prim.Native.Nat.{◌-◌, ◌≤◌}
 use mathlib.Core.Path.{◌≡◌}
 use Rattle.bits.specs.Below.{every}
 use Rattle.zsrm.specs.Record.{sound_at}
@@ -7,7 +6,4 @@ use Rattle.zsrm.specs.Given.{given}
 use Rattle.zsrm.proofs.record.is_consistent.Given as goal
 
 abbrev pub invariant-loop-j : goal.invariant-loop-j
-invariant-loop-j l = (l.j ≤ 64) × (l.every ≡ every l.j (sound_at (given l.mode l.tasks l.jobs) l.rec))
-
-abbrev pub decreases-loop-j : goal.decreases-loop-j
-decreases-loop-j l = 64 - l.j
+invariant-loop-j l = l.every ≡ every l.j (sound_at (given l.mode l.tasks l.jobs) l.rec)

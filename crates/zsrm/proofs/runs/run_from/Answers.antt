@@ -22,7 +22,7 @@ long : (l after : List ℕ) (t k e : ℕ) → after ≡ sets l t (replicate k e)
 long l after t k e q = ap length q ∙ length-sets l t (replicate k e)
 
 pub started-s-requires : goal.started-s-requires
-started-s-requires c = (omega (arith, c.job_count-n.ensures, lists_few _ c.requires.jobs_value), c.gathered-g.ensures.size)
+started-s-requires c = omega (arith, c.job_count-n.ensures, lists_few _ c.requires.jobs_value)
 
 pub loop-t-init : goal.loop-t-init
 loop-t-init c =
@@ -36,11 +36,8 @@ loop-t-init c =
       sym (entries_none x (choice x a.tie) _),
     )
 
-pub look-seen-requires : goal.look-seen-requires
-look-seen-requires c = c.gathered-g.ensures.size
-
 pub choice-entry-requires : goal.choice-entry-requires
-choice-entry-requires c = (omega (arith, c.job_count-n.ensures, lists_few _ c.requires.jobs_value), c.gathered-g.ensures.size)
+choice-entry-requires c = omega (arith, c.job_count-n.ensures, lists_few _ c.requires.jobs_value)
 
 pub overflow_cast-most : goal.overflow_cast-most
 overflow_cast-most c =
@@ -48,7 +45,7 @@ overflow_cast-most c =
     c.requires.start_value.1 in let same = c.loop-t.invariant.1 in search rules
 
 pub ahead-far-requires : goal.ahead-far-requires
-ahead-far-requires c = (omega (arith, c.job_count-n.ensures, lists_few _ c.requires.jobs_value), c.gathered-g.ensures.size)
+ahead-far-requires c = omega (arith, c.job_count-n.ensures, lists_few _ c.requires.jobs_value)
 
 pub fill-requires : goal.fill-requires
 fill-requires c =
@@ -71,11 +68,8 @@ fill-requires c =
     let fits-here : c.loop-t.t + k ≤ length c.loop-t.schedule = omega (arith, within) in
     fits-here
 
-pub slice_bounds-leap-end : goal.slice_bounds-leap-end
-slice_bounds-leap-end c = let size = c.gathered-g.ensures.size in search rules
-
-pub leap-next-requires : goal.leap-next-requires
-leap-next-requires c =
+pub leap-s-requires : goal.leap-s-requires
+leap-s-requires c =
     let a = c.args in
     let x = given a.mode a.tasks.now a.jobs.now in
     let few = lists_few _ c.requires.jobs_value in
@@ -159,9 +153,9 @@ loop-t-preserved c =
       omega (arith, within, c.loop-t.invariant.1),
       long c.loop-t.schedule _ c.loop-t.t k c.choice-entry.result
           c.fill.ensures ∙ c.loop-t.invariant.1,
-      turn_kept x _ _ _ z c.loop-t.s kept _ c.look-seen.ensures w.sound _ may _ _ c.ahead-far.ensures.early _ c.leap-next.ensures,
+      turn_kept x _ _ _ z c.loop-t.s kept _ c.look-seen.ensures w.sound _ may _ _ c.ahead-far.ensures.early _ c.leap-s.ensures,
       turn_going x _ _ _ z c.loop-t.s kept _ c.look-seen.ensures w.sound _ may _ _ more c.ahead-far.ensures.ticks (choice x a.tie) _ c.loop-t.t w
-          (omega (arith, c.loop-t.invariant.1, began)) takes _ c.ahead-far.ensures.early _ c.leap-next.ensures,
+          (omega (arith, c.loop-t.invariant.1, began)) takes _ c.ahead-far.ensures.early _ c.leap-s.ensures,
       turn_fills x _ _ _ z c.loop-t.s kept _ c.look-seen.ensures w.sound _ may _ _ more c.ahead-far.ensures.ticks (choice x a.tie) _ c.loop-t.t w
           (omega (arith, c.loop-t.invariant.1, began)) takes c.loop-t.schedule _ c.loop-t.invariant.4 (omega (arith, within)) c.fill.ensures,
     )

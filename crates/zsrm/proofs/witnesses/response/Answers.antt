@@ -21,29 +21,29 @@ shows_same {s} {q} {p} {p'} {l} e w = subst (λ (x : Part). Shows s x q l) e w
 
 pub walk-walked-requires : goal.walk-walked-requires
 walk-walked-requires c =
-    let w = witnessed _ _ _ _ (sym c.check_witness-checked.ensures ∙ c.in-Done.is) in
+    let w = witnessed _ _ _ _ (sym c.check_witness.ensures ∙ c.in-Ok.is) in
     (w.named.lists, w.limit)
 
 pub replayed_part-requires : goal.replayed_part-requires
 unfolding legal_length
 replayed_part-requires c =
     let a = c.args in
-    let w = witnessed _ _ _ _ (sym c.check_witness-checked.ensures ∙ c.in-Done.is) in (
+    let w = witnessed _ _ _ _ (sym c.check_witness.ensures ∙ c.in-Ok.is) in (
       omega (arith, w.named.job, w.named.few),
       λ legal. let all = sym c.walk-walked.ensures.ticks ∙ eqb-true _ _ legal in
           subst (λ (r : Record). FitsIn (arrival a.jobs.now a.job) a.schedule.now (standing_at r a.job)) (sym (replayed_whole _ _ _ c.walk-walked.ensures all))
           (part_fits _ a.schedule.now a.job w.limit (omega (arith, w.named.job, w.named.few)) all),
     )
 
-pub returns-in-Done : goal.returns-in-Done
+pub returns-in-Ok : goal.returns-in-Ok
 unfolding response_answer
-returns-in-Done c =
+returns-in-Ok c =
     shows_same
-    (part_answer _ _ _ _ c.walk-walked.ensures ∙ sym (unless_done _ _ _ (sym c.check_witness-checked.ensures ∙ c.in-Done.is)))
+    (part_answer _ _ _ _ c.walk-walked.ensures ∙ sym (unless_done _ _ _ (sym c.check_witness.ensures ∙ c.in-Ok.is)))
     c.replayed_part.ensures
 
-pub returns-in-Refused : goal.returns-in-Refused
+pub returns-in-Err : goal.returns-in-Err
 unfolding response_answer
-returns-in-Refused c =
-    rw (unless_refused _ _ _ _ _ (sym c.check_witness-checked.ensures ∙ c.in-Refused.is))
+returns-in-Err c =
+    rw (unless_refused _ _ _ _ _ (sym c.check_witness.ensures ∙ c.in-Err.is))
     (record { holds = refl; block = refl; byte = omega arith })

@@ -8,13 +8,13 @@ use Rattle.season.proofs.answers.Report.empty.Goals as goal
 
 pub overflow_cast-tasks : goal.overflow_cast-tasks
 unfolding task_count
-overflow_cast-tasks c = omega (arith, few_tasks _ (sym c.check_tasks-checked.ensures ∙ c.in-Done.is))
+overflow_cast-tasks c = omega (arith, few_tasks _ (sym c.check_tasks.ensures ∙ c.in-Ok.is))
 
-pub returns-in-Done : goal.returns-in-Done
+pub returns-in-Ok : goal.returns-in-Ok
 unfolding task_count
-returns-in-Done c = empty_done _ (sym c.check_tasks-checked.ensures ∙ c.in-Done.is) _ c.empty_report-report.ensures
+returns-in-Ok c = empty_done _ (sym c.check_tasks.ensures ∙ c.in-Ok.is) _ c.empty_report.ensures
 
-pub returns-in-Refused : goal.returns-in-Refused
-returns-in-Refused c =
+pub returns-in-Err : goal.returns-in-Err
+returns-in-Err c =
     c.refused_report.ensures
-    ∙ empty_refused _ _ _ (sym c.check_tasks-checked.ensures ∙ c.in-Refused.is) _ c.empty_report.ensures
+    ∙ empty_refused _ _ _ (sym c.check_tasks.ensures ∙ c.in-Err.is) _ c.empty_report-in-Err.ensures

@@ -3,11 +3,11 @@ use mathlib.Core.Path.{sym, ◌∙◌}
 use Rattle.season.proofs.Laws.Reports.{join_done, join_refused, joins, joins_room}
 use Rattle.season.proofs.answers.Report.join.Goals as goal
 
-pub join_reports-report-requires : goal.join_reports-report-requires
-join_reports-report-requires c = joins_room _ _ (joins _ _ (sym c.check18-checked.ensures ∙ c.in-Done.is))
+pub join_reports-requires : goal.join_reports-requires
+join_reports-requires c = joins_room _ _ (joins _ _ (sym c.check18.ensures ∙ c.in-Ok.is))
 
-pub returns-in-Done : goal.returns-in-Done
-returns-in-Done c = join_done _ _ (sym c.check18-checked.ensures ∙ c.in-Done.is) _ c.join_reports-report.ensures
+pub returns-in-Ok : goal.returns-in-Ok
+returns-in-Ok c = join_done _ _ (sym c.check18.ensures ∙ c.in-Ok.is) _ c.join_reports.ensures
 
-pub returns-in-Refused : goal.returns-in-Refused
-returns-in-Refused c = c.refused_report.ensures ∙ join_refused _ _ _ _ (sym c.check18-checked.ensures ∙ c.in-Refused.is)
+pub returns-in-Err : goal.returns-in-Err
+returns-in-Err c = c.refused_report.ensures ∙ join_refused _ _ _ _ (sym c.check18.ensures ∙ c.in-Err.is)

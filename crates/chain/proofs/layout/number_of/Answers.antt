@@ -1,8 +1,0 @@
--- By the layout.
-use Rattle.chain.proofs.layout.number_of.Goals as goal
-
-pub returns-in-One : goal.returns-in-One
-returns-in-One c = rw c.in-One.is
-
-pub returns-in-Two : goal.returns-in-Two
-returns-in-Two c = rw c.in-Two.is

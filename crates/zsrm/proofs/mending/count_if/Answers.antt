@@ -1,9 +1,0 @@
--- Either way the definition's own case.
-use native.Mathlib.Omega.{arith}
-use Rattle.zsrm.proofs.mending.count_if.Goals as goal
-
-pub returns-then-counts : goal.returns-then-counts
-returns-then-counts c = rw c.if-counts.true (omega arith)
-
-pub returns-else-counts : goal.returns-else-counts
-returns-else-counts c = rw c.if-counts.false (omega arith)
