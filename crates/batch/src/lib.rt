@@ -17,6 +17,7 @@ mod refusals;
 mod runs;
 
 pub use answers::Batch;
+pub use zsrm::{Outcome, Refusal};
 
 // Each run, with the lowest job number among equals, into its own place in the lent list. Refusals: the table's, 9 and 17 with run 0, then
 // 5 to 8 with the number of the first run whose list is refused; all are found before anything is written.

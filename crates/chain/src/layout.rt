@@ -5,15 +5,18 @@ ghost use Rattle.chain.specs.Layout.{width, number_of, known};
 // One: document 01's seven numbers per task. Two: an eighth behind them, a label.
 #[derive(Clone, Copy, Debug, PartialEq, Eq)]
 pub enum Layout {
-    One = 1,
-    Two = 2,
+    One,
+    Two,
 }
 
 // The layout's own number.
 pub(crate) fn number_of(layout: Layout) -> u32
     ensures { result ≡ number_of layout }
 {
-    layout as u32
+    match layout {
+        Layout::One => 1,
+        Layout::Two => 2,
+    }
 }
 
 // How many numbers so many tasks have.

@@ -8,7 +8,7 @@ use drawn::damage::{wrong_length, wrong_task};
 use drawn::draw::draw;
 use drawn::inputs::{make_input, short};
 use drawn::judge::{Fault, refusal, rule, tasks_fault};
-use drawn::list::{List, at, lent};
+use drawn::list::{List, at, front, lent};
 use std::{array, io};
 use zsrm::{Mode, Refusal};
 
@@ -27,6 +27,34 @@ struct File {
 struct Taken {
     k: u32,
     end: u32,
+}
+
+// The tables that were taken: at most one every third turn, in fixed memory.
+#[derive(Clone, Copy)]
+struct Log {
+    taken: [Taken; 10],
+    len: usize,
+}
+
+impl Log {
+    fn new() -> Log {
+        Log {
+            taken: [Taken { k: 0, end: 0 }; 10],
+            len: 0,
+        }
+    }
+
+    fn push(&mut self, taken: Taken) {
+        let n = self.len;
+        if n < 10 {
+            self.taken[n] = taken;
+            self.len = n + 1;
+        }
+    }
+
+    fn as_slice(&self) -> &[Taken] {
+        front(&self.taken, self.len)
+    }
 }
 
 // A table in a layout, of so many tasks: all its numbers, and its tasks' seven without labels, none where its length is wrong.
@@ -89,9 +117,20 @@ fn words_at(file: &Book, place: usize) -> &[[u8; 4]] {
     words
 }
 
+// The number of a word: each byte pushes those before it down.
+fn number_in(word: &[u8; 4]) -> u32 {
+    word.iter()
+        .fold(0, |x: u32, byte| (x >> 8) | (u32::from(*byte) << 24))
+}
+
+// The word of a number, its lowest byte first.
+fn word_of(x: u32) -> [u8; 4] {
+    array::from_fn(|i| ((x >> (8 * (i % 4) as u32)) % 256) as u8)
+}
+
 fn trailer_at(file: &Book, place: usize) -> Trailer {
     let words = words_at(file, place);
-    let number = |i: usize| words.get(i).map_or(0, |word| u32::from_le_bytes(*word));
+    let number = |i: usize| words.get(i).map_or(0, |word| number_in(word));
     Trailer {
         start: number(0),
         before: number(1),
@@ -105,7 +144,7 @@ fn numbers_at(file: &Book, place: usize, n: usize, labelled: bool) -> List {
     let mut list = List::new();
     for (j, word) in words_at(file, place).iter().enumerate().take(n) {
         if !(labelled & (j % 8 == 7)) {
-            list.push(u32::from_le_bytes(*word));
+            list.push(number_in(word));
         }
     }
     list
@@ -116,7 +155,7 @@ fn write_at(file: &mut Book, place: usize, numbers: &[u32]) {
     if let Some(rest) = file.get_mut(place..) {
         let (words, _) = rest.as_chunks_mut::<4>();
         for (word, x) in words.iter_mut().zip(numbers) {
-            *word = x.to_le_bytes();
+            *word = word_of(*x);
         }
     }
 }
@@ -485,7 +524,7 @@ fn try_ends(
 // A file that grows by a table every third turn, each tried in just the room that it needs and in a byte less, too; in every turn, the file
 // with a change.
 pub(crate) fn try_chains(desk: &mut Desk<impl Print>, trial: u32) -> io::Result<()> {
-    let mut log = Vec::new(desk.alloc);
+    let mut log = Log::new();
     let blank = File {
         bytes: [0; 2048],
         used: 0,
@@ -501,7 +540,7 @@ pub(crate) fn try_chains(desk: &mut Desk<impl Print>, trial: u32) -> io::Result<
                 log.push(Taken {
                     k: turn,
                     end: (end % 4294967296) as u32,
-                })?;
+                });
             }
             file = next;
         }

@@ -103,7 +103,7 @@ fn try_input(desk: &mut Desk<impl Print>, group: Group, trial: u32) -> io::Resul
 }
 
 // Every group, each trial with a number of its own, and the sum of them all.
-pub(crate) fn all(rt: &(impl Print + AllocGlobal)) -> io::Result<()> {
+pub(crate) fn all(rt: &impl Print) -> io::Result<()> {
     let mut sum = Desk::new(rt);
     for group in [
         Group::Stretches,

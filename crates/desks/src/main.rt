@@ -6,6 +6,7 @@ mod chains;
 mod counts;
 mod groups;
 mod seasons;
+mod spelling;
 mod stretches;
 mod tally;
 mod texts;

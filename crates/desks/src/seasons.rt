@@ -1,5 +1,6 @@
 // Season reports: runs added and reports joined, against sums over jobs that are asked one by one; reports that were made up; means, least and
 // greatest, and texts.
+use crate::spelling::Spelling;
 use crate::tally::{Beside, Call, Desk};
 use drawn::answers::Answer;
 use drawn::damage::damaged;
@@ -8,7 +9,7 @@ use drawn::inputs::{Input, make_day, short};
 use drawn::judge::{Fault, first, lists_fault, refusal, rule, tasks_fault};
 use drawn::list::{ARRIVAL, Case, List, OWNER, lent, no_line};
 use season::{Report, Reported, Row};
-use std::alloc::{AllocError, Global};
+use std::fmt::{self, Write};
 use std::io;
 use zsrm::{Mode, Record, Standing, Tie};
 
@@ -63,23 +64,31 @@ fn made_up(tasks: u32, trial: u32, from: u32, range: u32) -> Report {
     out
 }
 
-// Two rows as one, unless a number of it has no room.
+// A sum, made in 64 bits, unless 32 have no room for it.
+fn sum_of(x: u32, y: u32) -> Option<u32> {
+    u32::try_from(u64::from(x) + u64::from(y)).ok()
+}
+
+// Two rows as one, unless a number of it has no room. A side without a finished job has a least above all others, which comes round to 0.
 fn plus(a: Row, b: Row) -> Option<Row> {
-    let (least, greatest) = match (a.finished, b.finished) {
-        (0, 0) => (0, 0),
-        (0, _) => (b.least, b.greatest),
-        (_, 0) => (a.least, a.greatest),
-        _ => (a.least.min(b.least), a.greatest.max(b.greatest)),
+    let past: u64 = 4294967296;
+    let least_of = |row: Row| match row.finished {
+        0 => past,
+        _ => u64::from(row.least),
+    };
+    let greatest_of = |row: Row| match row.finished {
+        0 => 0,
+        _ => row.greatest,
     };
     Some(Row {
-        met: a.met.checked_add(b.met)?,
-        late: a.late.checked_add(b.late)?,
-        ended: a.ended.checked_add(b.ended)?,
-        open: a.open.checked_add(b.open)?,
-        finished: a.finished.checked_add(b.finished)?,
-        sum: a.sum.checked_add(b.sum)?,
-        least,
-        greatest,
+        met: sum_of(a.met, b.met)?,
+        late: sum_of(a.late, b.late)?,
+        ended: sum_of(a.ended, b.ended)?,
+        open: sum_of(a.open, b.open)?,
+        finished: sum_of(a.finished, b.finished)?,
+        sum: sum_of(a.sum, b.sum)?,
+        least: (least_of(a).min(least_of(b)) % past) as u32,
+        greatest: greatest_of(a).max(greatest_of(b)),
     })
 }
 
@@ -94,6 +103,19 @@ fn joined(a: Report, b: Report) -> Option<Report> {
         *row = plus(*x, *y)?;
     }
     Some(out)
+}
+
+// Whether two rows are the same, number for number.
+fn same_row(a: &Row, b: &Row) -> bool {
+    let counts = (a.met == b.met) & (a.late == b.late) & (a.ended == b.ended);
+    let rest = (a.open == b.open) & (a.finished == b.finished) & (a.sum == b.sum);
+    counts & rest & (a.least == b.least) & (a.greatest == b.greatest)
+}
+
+// Whether two reports are the same, row for row.
+fn same_report(a: &Report, b: &Report) -> bool {
+    let mut rows = a.rows.iter().zip(b.rows.iter());
+    (a.tasks == b.tasks) & rows.all(|(x, y)| same_row(x, y))
 }
 
 fn of_reported(reported: Reported) -> (Answer, Report) {
@@ -120,7 +142,7 @@ fn check(
         call,
         a.tasks,
         refusal(refused),
-        came.and_record(report == due),
+        came.and_record(same_report(&report, &due)),
     )?;
     if fault.is_none() & sum.is_none() & (a.tasks == b.tasks) {
         desk.add(call, Beside::NumberAlone, 1);
@@ -260,8 +282,8 @@ fn try_mean(desk: &mut Desk<impl Print>, row: Row) -> io::Result<()> {
 }
 
 // The text of a report, a line for each task; of one without a finished job no response is told.
-fn text_of(alloc: Global, report: Report) -> Result<String, AllocError> {
-    let mut text = String::new(alloc);
+fn text_of(report: Report) -> Result<Spelling, fmt::Error> {
+    let mut text = Spelling::new();
     for (k, row) in report.rows.iter().enumerate().take(report.tasks as usize) {
         let Row {
             met,
@@ -289,11 +311,10 @@ fn text_of(alloc: Global, report: Report) -> Result<String, AllocError> {
 fn try_show(desk: &mut Desk<impl Print>, report: Report) -> io::Result<()> {
     let mut out = [46u8; 2048];
     let n = season::show(report, &mut out);
-    let text = text_of(desk.alloc, report)?;
-    let bytes = text.as_bytes();
-    let right = (n == bytes.len())
-        && out.starts_with(bytes)
-        && out.iter().skip(n).all(|byte| *byte == 46);
+    let right = text_of(report).is_ok_and(|text| {
+        let bytes = text.as_slice();
+        (n == bytes.len()) && out.starts_with(bytes) && out.iter().skip(n).all(|byte| *byte == 46)
+    });
     let due = match report.tasks {
         0 => Answer::Empty,
         tasks => Answer::Numbered(tasks),

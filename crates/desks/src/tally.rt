@@ -2,7 +2,6 @@
 use drawn::answers::Answer;
 use drawn::list::Case;
 use drawn::tally::{Tally, print_input};
-use std::alloc::Global;
 use std::io;
 
 // The calls, in the order in which they are numbered.
@@ -66,19 +65,17 @@ impl Beside {
     }
 }
 
-// Where a group of trials is written, what it may allocate with, and what it counted.
+// Where a group of trials is written, and what it counted.
 #[derive(Drop)]
 pub(crate) struct Desk<'a, R> {
     rt: &'a R,
-    pub alloc: Global,
     pub tally: Tally,
 }
 
-impl<'a, R: Print + AllocGlobal> Desk<'a, R> {
+impl<'a, R: Print> Desk<'a, R> {
     pub(crate) fn new(rt: &'a R) -> Desk<'a, R> {
         Desk {
             rt,
-            alloc: rt.alloc(),
             tally: Tally::new(),
         }
     }

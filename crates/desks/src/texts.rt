@@ -1,11 +1,11 @@
 // Numbers read from text, and bytes, words and numbers put into it. A text of digits around the bounds of a number is read at every place,
 // and what is read is held to the digits from the last one on; what is put, in less room than it takes, in just its room and in more, is held
 // to digits found from the first one on.
+use crate::spelling::Spelling;
 use crate::tally::{Beside, Call, Desk};
 use drawn::answers::Answer;
 use drawn::draw::draw;
-use drawn::list::{front, lent};
-use std::alloc::{AllocError, Global};
+use drawn::list::{List, front, lent};
 use std::{array, io};
 
 // The bytes that are written to.
@@ -45,14 +45,13 @@ const BOUNDS: [u64; 8] = [
 const NO_DIGITS: [u8; 8] = [47, 58, 32, 10, 0, 255, 45, 112];
 
 // A number behind what a text holds, with zeros before it where it has fewer than so many digits.
-fn push_digits(text: &mut Vec<u8>, x: u64, fewest: usize) -> Result<(), AllocError> {
+fn push_digits(text: &mut Spelling, x: u64, fewest: usize) {
     for (i, power) in POWERS.iter().enumerate() {
         if (*power <= x) || (12 <= i + fewest % 16) {
             let digit = x.checked_div(*power).unwrap_or(0) % 10;
-            text.push(48 + digit as u8)?;
+            text.push(48 + digit as u8);
         }
     }
-    Ok(())
 }
 
 // A number of any size, every other time at a bound.
@@ -68,20 +67,20 @@ fn some_number(seed: u32, from: u32) -> u64 {
 }
 
 // Four numbers of up to twelve digits, mostly with a byte behind that is no digit; one time in eight none at all.
-fn some_text(alloc: Global, seed: u32) -> Result<Vec<u8>, AllocError> {
-    let mut text = Vec::new(alloc);
+fn some_text(seed: u32) -> Spelling {
+    let mut text = Spelling::new();
     if draw(seed, 100, 8) == 0 {
-        return Ok(text);
+        return text;
     }
     for k in 0u32..4 {
         let p = 200 + 16 * (k % 4);
         let fewest = 1 + draw(seed, p + 8, 12);
-        push_digits(&mut text, some_number(seed, p), fewest as usize)?;
+        push_digits(&mut text, some_number(seed, p), fewest as usize);
         if draw(seed, p + 10, 4) != 0 {
-            text.push(NO_DIGITS[(draw(seed, p + 9, 8) % 8) as usize])?;
+            text.push(NO_DIGITS[(draw(seed, p + 9, 8) % 8) as usize]);
         }
     }
-    Ok(text)
+    text
 }
 
 // A reader of numbers of so many digits.
@@ -115,9 +114,16 @@ impl Reader {
     }
 }
 
-// The digits at the head of a text.
+// The digits at the head of a text, counted from its last byte on: at a byte that is none the count begins again.
 fn digits_of(text: &[u8]) -> &[u8] {
-    let n = text.iter().take_while(|byte| byte.is_ascii_digit()).count();
+    let mut n: usize = 0;
+    for byte in text.iter().rev() {
+        n = if byte.is_ascii_digit() {
+            n.saturating_add(1)
+        } else {
+            0
+        };
+    }
     front(text, n)
 }
 
@@ -179,7 +185,7 @@ fn try_number(
 
 // A text read at each of its places, at its end, behind it, and behind every list.
 fn try_reads(desk: &mut Desk<impl Print>, trial: u32) -> io::Result<()> {
-    let text = some_text(desk.alloc, trial)?;
+    let text = some_text(trial);
     let bytes = text.as_slice();
     for from in (0..bytes.len() + 2).chain([FAR]) {
         try_number(desk, Reader::Wide, bytes, from)?;
@@ -189,12 +195,12 @@ fn try_reads(desk: &mut Desk<impl Print>, trial: u32) -> io::Result<()> {
 }
 
 // What is put.
-#[derive(Drop)]
+#[derive(Clone, Copy)]
 enum Put {
     Byte(u8),
-    Text(Vec<u8>),
+    Text(Spelling),
     Number(u32),
-    Numbers(Vec<u32>),
+    Numbers(List),
 }
 
 // A number of 32 bits.
@@ -204,19 +210,19 @@ fn some_word(seed: u32, k: u32) -> u32 {
 
 impl Put {
     // Each of the four in turn.
-    fn drawn(alloc: Global, turn: u32, seed: u32) -> Result<Put, AllocError> {
-        Ok(match turn % 4 {
+    fn drawn(turn: u32, seed: u32) -> Put {
+        match turn % 4 {
             0 => Put::Byte((draw(seed, 120, 256) % 256) as u8),
-            1 => Put::Text(some_text(alloc, seed)?),
+            1 => Put::Text(some_text(seed)),
             2 => Put::Number(some_word(seed, 0)),
             _ => {
-                let mut numbers = Vec::new(alloc);
+                let mut numbers = List::new();
                 for k in 0..draw(seed, 122, 13) {
-                    numbers.push(some_word(seed, k))?;
+                    numbers.push(some_word(seed, k));
                 }
                 Put::Numbers(numbers)
             }
-        })
+        }
     }
 
     fn call(&self) -> Call {
@@ -229,20 +235,20 @@ impl Put {
     }
 
     // All the bytes that it takes: a space stands before each of several numbers.
-    fn bytes(&self, alloc: Global) -> Result<Vec<u8>, AllocError> {
-        let mut text = Vec::new(alloc);
+    fn bytes(&self) -> Spelling {
+        let mut text = Spelling::new();
         match self {
-            Put::Byte(byte) => text.push(*byte)?,
-            Put::Text(bytes) => text.extend_from_slice(bytes.as_slice())?,
-            Put::Number(x) => push_digits(&mut text, *x as u64, 1)?,
+            Put::Byte(byte) => text.push(*byte),
+            Put::Text(bytes) => text.extend(bytes.as_slice()),
+            Put::Number(x) => push_digits(&mut text, *x as u64, 1),
             Put::Numbers(numbers) => {
-                for x in numbers.iter() {
-                    text.push(32)?;
-                    push_digits(&mut text, *x as u64, 1)?;
+                for x in numbers.as_slice() {
+                    text.push(32);
+                    push_digits(&mut text, *x as u64, 1);
                 }
             }
         }
-        Ok(text)
+        text
     }
 
     // Puts it into a list from a place on: the position after it.
@@ -276,7 +282,8 @@ fn lent_room(seed: u32, from: u32, n: u32) -> u32 {
 
 // One call of a writer. Of what it puts as many bytes are written as there is room for, and its answer is the position after them.
 fn try_put(desk: &mut Desk<impl Print>, what: &Put, seed: u32) -> io::Result<()> {
-    let bytes = what.bytes(desk.alloc)?;
+    let text = what.bytes();
+    let bytes = text.as_slice();
     let n = bytes.len();
     let near = draw(seed, 123, 40);
     let far = draw(seed, 124, 12) == 0;
@@ -309,7 +316,7 @@ pub(crate) fn try_texts(desk: &mut Desk<impl Print>, trial: u32) -> io::Result<(
     try_reads(desk, trial)?;
     for turn in 0u32..16 {
         let seed = 16 * (trial % 100000000) + turn % 16;
-        try_put(desk, &Put::drawn(desk.alloc, turn, seed)?, seed)?;
+        try_put(desk, &Put::drawn(turn, seed), seed)?;
     }
     Ok(())
 }

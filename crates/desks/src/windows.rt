@@ -3,7 +3,7 @@ use crate::tally::{Beside, Call, Desk};
 use drawn::answers::Answer;
 use drawn::draw::draw;
 use drawn::judge::{Fault, first, lists_fault, refusal, rule};
-use drawn::list::{Case, OWNER, lent, no_line};
+use drawn::list::{Case, OWNER, front, lent, no_line};
 use std::{array, io};
 use window::Windows;
 use zsrm::{Ran, Record, Refusal};
@@ -29,6 +29,38 @@ struct Question {
 struct Own {
     number: u32,
     fate: Fate,
+}
+
+// The jobs of a task, in the order of the list.
+#[derive(Clone, Copy)]
+struct OwnJobs {
+    jobs: [Own; 64],
+    count: usize,
+}
+
+impl OwnJobs {
+    fn new() -> OwnJobs {
+        let none = Own {
+            number: 0,
+            fate: Fate::Neither,
+        };
+        OwnJobs {
+            jobs: [none; 64],
+            count: 0,
+        }
+    }
+
+    fn push(&mut self, job: Own) {
+        let n = self.count;
+        if n < 64 {
+            self.jobs[n] = job;
+            self.count = n + 1;
+        }
+    }
+
+    fn as_slice(&self) -> &[Own] {
+        front(&self.jobs, self.count)
+    }
 }
 
 // Done where every window passes, the number of its first job where one fails, or a refusal; its misses; how many jobs are open.
@@ -72,26 +104,23 @@ fn how_many(own: &[Own], fate: Fate) -> usize {
     own.iter().filter(|job| job.fate == fate).count()
 }
 
-// The windows of k jobs counted one by one, up to the first that fails.
+// The windows of k jobs counted one by one, from the last to the first: the earliest that fails is found last.
 fn counted(own: &[Own], m: usize, k: usize) -> Judged {
-    let opens = how_many(own, Fate::Open);
-    for window in own.windows(k.max(1)) {
+    let mut due = Judged {
+        answer: Answer::Done,
+        misses: 0,
+        opens: how_many(own, Fate::Open),
+    };
+    for window in own.windows(k.max(1)).rev() {
         let misses = how_many(window, Fate::Missed);
         if let Some(job) = window.first()
             && m < misses
         {
-            return Judged {
-                answer: Answer::Numbered(job.number),
-                misses,
-                opens,
-            };
+            due.answer = Answer::Numbered(job.number);
+            due.misses = misses;
         }
     }
-    Judged {
-        answer: Answer::Done,
-        misses: 0,
-        opens,
-    }
+    due
 }
 
 // K mostly from 1 to 12, at times from 13 to 64, one time in twelve 0 or over 64; m mostly at most half of K, at times up to K + 1; one time
@@ -139,22 +168,23 @@ fn try_question(
     fates: &[Fate; 64],
     q: Question,
 ) -> io::Result<()> {
-    let mut own = Vec::new(desk.alloc);
+    let mut jobs = OwnJobs::new();
     for (j, fate) in fates.iter().enumerate().take(case.job_count()) {
         if case.job(j, OWNER) == q.task {
-            own.push(Own {
+            jobs.push(Own {
                 number: (j % 64) as u32,
                 fate: *fate,
-            })?;
+            });
         }
     }
+    let own = jobs.as_slice();
     let due = match fault_of(rec, case, q) {
         Some(fault) => Judged {
             answer: Answer::from(fault),
             misses: 0,
             opens: 0,
         },
-        None => counted(own.as_slice(), q.m as usize, q.k as usize),
+        None => counted(own, q.m as usize, q.k as usize),
     };
     let came = of_windows(window::judge(rec, case.mode, case.tasks, case.jobs, q.task, q.m, q.k));
     let same = (came.misses == due.misses) & (came.opens == due.opens);

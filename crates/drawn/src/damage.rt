@@ -22,7 +22,7 @@ fn beyond(trial: u32, place: u32, most: u32) -> u32 {
 
 // The last number goes, or all do, or there are one or two more, or too many.
 pub fn wrong_length(list: List, trial: u32, place: u32, too_many: usize) -> List {
-    let n = list.len();
+    let n = list.len;
     let mut longer = list;
     match draw(trial, place, 5) {
         0 => list.with_len(0),
@@ -42,7 +42,7 @@ pub fn wrong_length(list: List, trial: u32, place: u32, too_many: usize) -> List
 // One field of a task out of its range, or out of its order.
 pub fn wrong_task(tasks: List, trial: u32, from: u32) -> List {
     let place = from % 50000;
-    let k = draw(trial, place, ((tasks.len() / 7) % 64) as u32) as usize;
+    let k = draw(trial, place, ((tasks.len / 7) % 64) as u32) as usize;
     let row = 7 * k;
     let column = draw(trial, place + 2, 7) as usize;
     match draw(trial, place + 1, 6) {
@@ -65,7 +65,7 @@ pub fn wrong_task(tasks: List, trial: u32, from: u32) -> List {
 fn some_row(jobs: List, trial: u32, place: u32) -> usize
     ensures { result < 200000 }
 {
-    let n = ((jobs.len() / 3) % 128) as u32;
+    let n = ((jobs.len / 3) % 128) as u32;
     if n < 2 {
         return 0;
     }
@@ -76,7 +76,7 @@ fn some_row(jobs: List, trial: u32, place: u32) -> usize
 pub fn wrong_job(jobs: List, tasks: List, trial: u32, from: u32) -> List {
     let place = from % 50000;
     let row = some_row(jobs, trial, place);
-    let count = ((tasks.len() / 7) % 64) as u32;
+    let count = ((tasks.len / 7) % 64) as u32;
     let owner = (jobs.get(row + OWNER) % 64) as usize;
     match draw(trial, place + 1, 3) {
         0 => {

@@ -3,13 +3,12 @@ ghost use Rattle.std.specs.Prelude.{◌≤◌};
 
 use zsrm::{Mode, Tie};
 
-// Room for 17 tasks and for 66 jobs, which are more than are allowed. No Vec and no ArrayVec of the kit: neither is `Copy`, and a list is
-// copied wherever it is damaged.
+// Room for 17 tasks and for 66 jobs, which are more than are allowed. A length may be any: of one beyond the room all 224 numbers are read. No
+// Vec and no ArrayVec of the kit: neither is `Copy`, and a list is copied wherever it is damaged.
 #[derive(Clone, Copy)]
 pub struct List {
-    numbers: [u32; 224],
-    len: usize,
-    ghost fits: { len ≤ 224 },
+    pub at: [u32; 224],
+    pub len: usize,
 }
 
 // A schedule, with room for the longest horizon.
@@ -111,25 +110,26 @@ pub const EXECUTION: usize = 2;
 impl List {
     pub fn new() -> List {
         List {
-            numbers: [0; 224],
+            at: [0; 224],
             len: 0,
         }
     }
 
+    // How many numbers are read.
     pub fn len(&self) -> usize
         ensures { result ≤ 224 }
     {
-        self.len
+        self.len.min(224)
     }
 
     pub fn as_slice(&self) -> &[u32] {
-        &self.numbers[..self.len]
+        &self.at[..self.len()]
     }
 
     pub fn push(&mut self, x: u32) {
         let n = self.len;
         if n < 224 {
-            self.numbers[n] = x;
+            self.at[n] = x;
             self.len = n + 1;
         }
     }
@@ -144,21 +144,21 @@ impl List {
     pub fn with(self, i: usize, x: u32) -> List {
         let mut next = self;
         if i < 224 {
-            next.numbers[i] = x;
+            next.at[i] = x;
         }
         next
     }
 
-    // The list cut to so many numbers, or longer by those that stand past its end.
+    // The list of another length: cut, or longer by the numbers that stand past its end.
     pub fn with_len(self, n: usize) -> List {
         let mut next = self;
-        next.len = n.min(224);
+        next.len = n;
         next
     }
 
     // The number at a place, also past the list's end.
     pub fn get(&self, i: usize) -> u32 {
-        if i < 224 { self.numbers[i] } else { 0 }
+        if i < 224 { self.at[i] } else { 0 }
     }
 }
 

@@ -12,7 +12,6 @@ use ends::between_ends;
 use given::Plan;
 use refusals::{check_asked, check_build};
 use rows::write_rows;
-use tables::{Outcome, Refusal};
 
 mod changes;
 mod counts;
@@ -20,6 +19,8 @@ mod ends;
 mod given;
 mod refusals;
 mod rows;
+
+pub use tables::{Outcome, Refusal};
 
 // The index of the schedule, written whole: of each multiple of 64 from 0 to the horizon a row, the ticks before it given to each task and,
 // last, idle. Refusals: 2 to 10, then 16 for an index of another length, or an entry before the last multiple that is neither job nor idle.
@@ -47,6 +48,7 @@ pub fn build(
 // How many ticks from a up to b the index and the entries since its rows give to the task, or to idle where it is the task count. Refusals:
 // 2 to 10; 15 for a > b or b beyond the horizon; 16 for an index of another length, a task above the task count, an entry read that is
 // neither job nor idle, or a count, an end's or the answer, outside 0 to the horizon.
+#[tactic(auto, unfolding(crate::specs::Answers::between_answer, crate::specs::Answers::check_between, tables::specs::Refusals::before, tables::specs::Refusals::unless))]
 pub fn between(
     tasks: &[u32],
     jobs: &[u32],

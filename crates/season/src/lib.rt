@@ -14,3 +14,4 @@ mod rows;
 pub use answers::{Extremes, Mean, Report, Reported, Row};
 pub use lines::show;
 pub use means::{extremes, mean};
+pub use zsrm::{Outcome, Refusal};

@@ -183,7 +183,7 @@ pub fn check_tasks_in(tasks: &[u8]) -> Outcome
     ensures { result ≡ check_tasks_in tasks.now }
 {
     refuse(tasks.len() % 4 != 0, 2, 0)?;
-    check_tasks_of(tasks)
+    check_tasks_of::<&[u8]>(tasks)
 }
 
 // 5 to 8 for a job list that lies in bytes.
@@ -191,10 +191,11 @@ fn check_jobs_in(tasks: &[u8], jobs: &[u8]) -> Outcome
     ensures { result ≡ check_jobs_in tasks.now jobs.now }
 {
     refuse(jobs.len() % 4 != 0, 5, 0)?;
-    check_jobs_of(tasks, jobs)
+    check_jobs_of::<&[u8]>(tasks, jobs)
 }
 
 // What every entry point that is given tasks and jobs in bytes checks first, without copying them.
+#[tactic(auto, unfolding(crate::specs::Bytes::check_lists_in, crate::specs::Refusals::before))]
 pub fn check_lists_in(tasks: &[u8], jobs: &[u8]) -> Outcome
     ensures { result ≡ check_lists_in tasks.now jobs.now }
 {

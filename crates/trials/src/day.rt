@@ -3,7 +3,7 @@
 use crate::flight::fly;
 use crate::leap::{Sim, Way};
 use crate::records::holds;
-use crate::runs::{held, verdict_of};
+use crate::runs::{came_of, held, verdict_of};
 use crate::tally::{CHANGED, Call, TO_ENDED};
 use drawn::answers::Answer;
 use drawn::draw::draw;
@@ -88,13 +88,13 @@ fn try_promise(
     let by = a + 12 + u64::from(case.job(j, EXECUTION));
     let place = rec.places[j];
     if (a + 20 <= u64::from(case.horizon)) & (case.job(j, OWNER) == 0) {
-        let verdict = Answer::from(planter::verdict(rec, case.mode, case.jobs, i));
+        let verdict = planter::verdict(rec, case.mode, case.jobs, i);
         let witness = planter::witness(case.mode, case.jobs, case.horizon, line, i);
         let timely = match place.standing {
             Standing::Finished(f) => u64::from(f) <= by,
             _ => false,
         };
-        let got = verdict
+        let got = came_of(verdict, Answer::Met)
             .and_words(Answer::from(witness) == Answer::NotMissed)
             .and_record(timely & (place.suspended == 0));
         t.note(rt, Call::Promised, i, Answer::Met, got)?;
@@ -115,8 +115,9 @@ fn try_jobs(
     let told = Answer::from(judged.outcome) == Answer::Done;
     for j in 0..case.job_count().min(64) {
         let i = j as u32;
-        let got = Answer::from(judged.of[j]).and_words(told);
-        t.note(rt, Call::DayVerdict, i, verdict_of(end, case, i), got)?;
+        let due = verdict_of(end, case, i);
+        let got = came_of(judged.of[j], due).and_words(told);
+        t.note(rt, Call::DayVerdict, i, due, got)?;
         try_promise(rt, t, case, rec, line, i)?;
     }
     Ok(())
@@ -155,7 +156,7 @@ fn try_change(
     };
     let own = without.verdict(job, none);
     let new = with.verdict(job, none);
-    let right = (Answer::from(change.before) == own) & (Answer::from(change.after) == new);
+    let right = (came_of(change.before, own) == own) & (came_of(change.after, new) == new);
     let got = Answer::Done.and_record(right);
     t.note(rt, Call::Day, job, Answer::Done, got)?;
     if ((job as usize) < without.case.job_count()) & (own != new) {

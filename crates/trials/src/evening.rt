@@ -1,5 +1,5 @@
 // Evenings of the planning office: batches of runs against the library's single runs, good batches and damaged ones.
-use crate::records::blank;
+use crate::records::{blank, same_record};
 use crate::runs::alike;
 use crate::tally::{Call, NO_RUNS};
 use batch::Batch;
@@ -189,7 +189,7 @@ fn try_single(
     let place = i * ((batch.horizon % 65536) as usize);
     let answer = Answer::from(ran.outcome)
         .and_entries(alike(front(&one, h), line, place))
-        .and_record(got.records[i] == ran.record);
+        .and_record(same_record(&got.records[i], &ran.record));
     t.note(rt, Call::BatchRun, r, Answer::Done, answer)
 }
 
@@ -207,7 +207,7 @@ fn try_runs(
         if i < n {
             try_single(rt, t, batch, line, got, r)?;
         } else {
-            let none = got.records[i] == blank();
+            let none = same_record(&got.records[i], &blank());
             t.note(
                 rt,
                 Call::Blank,

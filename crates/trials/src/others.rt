@@ -1,6 +1,7 @@
 // Other people's jobs: two lists of one table that hold the same members' jobs in the same order, the one with most of the others' jobs left
 // out. Each member's job has the same ticks, place and verdict in both runs, where every task outside the set has lower priority than each
 // member and is not more critical than any; where one may be more critical, it is counted how often they differ.
+use crate::records::same_place;
 use crate::tally::{Call, DROPPED_UNLIKE, PREMISE_DROPPED};
 use drawn::answers::Answer;
 use drawn::draw::draw;
@@ -112,7 +113,7 @@ fn compared(whole: Side, less: Side, ticks: bool, number: u32, there: u32) -> An
         .answer
         .and_entries(ticks)
         .and_words(whole.verdict(number) == less.verdict(there))
-        .and_record((p == q) & (less.answer == Answer::Done))
+        .and_record(same_place(&p, &q) & (less.answer == Answer::Done))
 }
 
 // Every member's job in the run of the whole list and in that of the other. What made a difference is written with both.

@@ -1,7 +1,7 @@
 // Going on: from any record against the simulator, and a run cut into parts, its record saved as numbers at each cut, against the run.
 use crate::flight::{between, fly_on};
 use crate::leap::Way;
-use crate::records::{begin, holds, taken_up};
+use crate::records::{begin, holds, same_record, taken_up};
 use crate::runs::{alike, held, record_fault};
 use crate::tally::{Call, NO_TICK_ON};
 use drawn::answers::Answer;
@@ -161,7 +161,9 @@ pub(crate) fn try_parts(
         rec = try_go_on(rt, t, its, put_back(saved(rec)), so_many, part)?;
     }
     let same = front(&line, ticks as usize) == front(own, ticks as usize);
-    let got = Answer::Done.and_entries(same).and_record(rec == ran);
+    let got = Answer::Done
+        .and_entries(same)
+        .and_record(same_record(&rec, &ran));
     t.add((Call::Parts, (n as usize) - 1), 1);
     t.note(rt, Call::Parts, n, Answer::Done, got)
 }

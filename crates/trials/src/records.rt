@@ -23,6 +23,19 @@ pub(crate) fn holds(rec: Record, jobs: &[u32], s: Sim) -> bool {
     same
 }
 
+// Whether two places hold the same, number for number.
+pub(crate) fn same_place(p: &Place, q: &Place) -> bool {
+    let times = (p.done == q.done) & (p.suspended == q.suspended) & (p.waited == q.waited);
+    times & (Fate::from(p.standing) == Fate::from(q.standing))
+}
+
+// Whether two records are the same, number for number.
+pub(crate) fn same_record(a: &Record, b: &Record) -> bool {
+    let mut places = a.places.iter().zip(b.places.iter());
+    let same = places.all(|(p, q)| same_place(p, q));
+    same & (a.tick == b.tick) & (a.previous == b.previous)
+}
+
 // The fate of a job at a place: one without work that is yet to come finishes as it arrives.
 fn fate_of(place: Place, jobs: &[u32], j: usize) -> Fate {
     match Fate::from(place.standing) {

@@ -3,7 +3,7 @@
 use crate::claims::{Claimed, is_claimed, make_claim};
 use crate::day::a_day;
 use crate::lines::{KINDS, Kind};
-use crate::records::{blank, holds};
+use crate::records::{blank, holds, same_record};
 use crate::runs::try_run;
 use crate::tally::{Call, OF_OUR_RUN};
 use drawn::answers::Answer;
@@ -44,7 +44,7 @@ fn record_due(rec: Record, jobs: &[u32], claim: Claimed) -> bool {
     if claim.due() == Answer::Legal {
         holds(rec, jobs, claim.replay.end)
     } else {
-        (rec == blank()) & (rec == Record::blank())
+        same_record(&rec, &blank()) & same_record(&rec, &Record::blank())
     }
 }
 
@@ -63,7 +63,7 @@ fn try_replayed(
         None => 0,
     };
     let same = match ran {
-        Some(ran) => got.record == ran,
+        Some(ran) => same_record(&got.record, &ran),
         None => true,
     };
     let answer = Answer::from(got.claim)

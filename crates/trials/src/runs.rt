@@ -13,7 +13,7 @@ use drawn::judge::{Fault, first, lists_fault, refusal, rule, ticks_of};
 use drawn::list::{ARRIVAL, Case, DEADLINE, IDLE, KEPT, Line, front, lent, no_line};
 use drawn::tally::Tally;
 use std::io;
-use zsrm::{Record, Stepped, Tie};
+use zsrm::{Record, Refusal, Stepped, Tie, Verdict};
 
 // Whether the entries of a list are those of another from a place on.
 pub(crate) fn alike(got: &[u16], want: &[u16], from: usize) -> bool {
@@ -205,6 +205,21 @@ fn verdict_due(fault: Option<Fault>, case: Case, s: Sim, j: u32) -> Answer {
     }
 }
 
+// Whether a job is missed by what must be said of it: it is neither met nor open, and nothing is refused.
+fn is_missed(due: Answer) -> bool {
+    !matches!(due, Answer::Met | Answer::Open | Answer::Refused { .. })
+}
+
+// The verdict that came; one that is due must say of itself, too, whether the job is missed.
+pub(crate) fn came_of(verdict: Result<Verdict, Refusal>, due: Answer) -> Answer {
+    let came = Answer::from(verdict);
+    let missed = match verdict {
+        Ok(verdict) => verdict.is_missed(),
+        Err(_) => false,
+    };
+    came.and_words((came != due) | (missed == is_missed(due)))
+}
+
 // The verdict on a job from any record.
 fn try_verdict(
     rt: &impl Print,
@@ -216,7 +231,7 @@ fn try_verdict(
 ) -> io::Result<()> {
     let got = zsrm::verdict(rec, case.mode, case.tasks, case.jobs, j);
     let due = verdict_due(fault, case, taken_up(rec, case.jobs), j);
-    t.note(rt, Call::Verdict, j, due, got.into())
+    t.note(rt, Call::Verdict, j, due, came_of(got, due))
 }
 
 // All verdicts at once, with which it is told whether the lists and the record are refused.
@@ -232,7 +247,7 @@ fn try_all(
     let told = Answer::from(all.outcome) == refusal(fault);
     for j in 0..64 {
         let due = verdict_due(fault, case, s, j);
-        let got = Answer::from(all.of[j as usize]).and_words(told);
+        let got = came_of(all.of[j as usize], due).and_words(told);
         t.note(rt, Call::AllVerdicts, j, due, got)?;
     }
     Ok(())

@@ -9,7 +9,7 @@ ghost use Rattle.window.specs.Answers.{judge_answer};
 use jobs::gather;
 use refusals::check_judge;
 use windows::windows_from;
-use zsrm::{Mode, Record, Refusal, verdicts};
+use zsrm::{Mode, Record, verdicts};
 
 mod answers;
 mod jobs;
@@ -17,6 +17,7 @@ mod refusals;
 mod windows;
 
 pub use answers::Windows;
+pub use zsrm::Refusal;
 
 // From a consistent record, such as a run returns: whether every window of k consecutive jobs of the task contains at most m misses, or the
 // first that does not, and how many of its jobs are open; refusals 2 to 8, 11, 19, 20.

@@ -3,6 +3,7 @@
 use Prim.Native.Nat.{ℕ}
 use mathlib.Core.Path.{ap₂, sym, ◌∙◌, ◌≡◌}
 use contract.Lifetimes.{Lfts}
+use Rattle.zsrm.proofs.answers.Verdict.is_missed.Reads as is_missed
 use Rattle.zsrm.proofs.c.zsrm_claim.Reads as zsrm-claim
 use Rattle.zsrm.proofs.c.zsrm_run.Reads as zsrm-run
 use Rattle.zsrm.proofs.claims.claim.Reads as claim
@@ -47,6 +48,9 @@ verdict_one κs a r s e f p q = p ∙ sym q
 
 pub verdicts_one : (κs : Lfts 2) (a : _) (r s : _) (e f : _) → verdicts.Learnt κs a r e → verdicts.Learnt κs a s f → r ≡ s
 verdicts_one κs a r s e f p q = p ∙ sym q
+
+pub is_missed_one : (κs : Lfts 0) (a : _) (r s : _) (e f : _) → is_missed.Learnt κs a r e → is_missed.Learnt κs a s f → r ≡ s
+is_missed_one κs a r s e f p q = p ∙ sym q
 
 pub witness_one : (κs : Lfts 3) (a : _) (r s : _) (e f : _) → witness.Learnt κs a r e → witness.Learnt κs a s f → r ≡ s
 witness_one κs a r s e f p q = p ∙ sym q

@@ -24,7 +24,6 @@ use Rattle.zsrm.specs.Mend.{mend, mended}
 use Rattle.zsrm.specs.Verdict.{Part, empty_part, part, verdict, witness}
 use Rattle.tables.specs.Tables.{Lists, lists}
 use Rattle.zsrm.specs.declared.answers.Claim.TheVariants as claims
-use Rattle.zsrm.specs.declared.answers.Verdict.TheVariants as verdicts
 
 -- A refused answer's record is blank.
 unfoldable pub ran : Outcome → Record → Ran
@@ -47,9 +46,9 @@ stepped g tie r =
       ended = ended_word g r (choice g tie r);
     }
 
--- One of all verdicts, as an array's element is read; there are 64.
+-- One of all verdicts, as a list's element is read; there are 64, and past them stands a refusal with 0 at place 0.
 abbrev pub verdict_of : Verdicts → ℕ → Result Verdict Refusal
-verdict_of all j = get_or all.of j (Ok verdicts.Met)
+verdict_of all j = get_or all.of j (Refused 0 0)
 
 -- Of a schedule that the claim check answers legal its record, else the blank one.
 abbrev pub if_legal : Result Claim Refusal → Record → Record

@@ -19,6 +19,7 @@ use crate::mode::{Mode, is_se};
 use crate::record::Record;
 use crate::runs::fill;
 use crate::tie::Tie;
+use bits::one_if;
 use tables::{Outcome, Refusal, check_schedule, check10, job_count};
 
 // What mending checks of its input: 2 to 9, and 10 of either list.
@@ -51,7 +52,11 @@ fn count_others(entries: &[u16], entry: u16) -> u32
     requires { length entries.now ≤ 16384 }
     ensures { result ≡ differing entries.now (replicate (length entries.now) entry) }
 {
-    entries.iter().filter(|its| **its != entry).count() as u32
+    let mut others: u32 = 0;
+    for i in 0..entries.len() {
+        others += one_if(entries[i] != entry);
+    }
+    others
 }
 
 // Writes the entries that mending chooses from a record on, for as many ticks as the list has entries, and counts those that are not the

@@ -10,10 +10,8 @@ use lib.Dec.{eqb, ltb}
 use lib.ListN.{drop, drop_of_length-le, get_or, get_or-replicate, length, length-drop, replicate, take}
 use lib.Seq.{length-take-le, sets, take-add, take_all}
 use borrow.Rule.Slice.PartMut.{put_mid}
-use Rattle.std.specs.List.{count_by}
-use Rattle.std.proofs.lemmas.List.Sums.{sum_by_more}
 use Rattle.bits.specs.Below.{count, word}
-use Rattle.bits.proofs.Laws.Below.{count_next, count_nothing}
+use Rattle.bits.proofs.Laws.Below.{count_most, count_next, count_nothing}
 use Rattle.bits.proofs.Laws.Bools.{and_false_right}
 use Rattle.bits.proofs.Laws.Lists.{get_or_any}
 use Rattle.tables.specs.Tables.{idle, job_count}
@@ -78,22 +76,23 @@ module _ (g : Given) where
 
 -- the entries of a list that are not x, counted
 module _ (l : List ℕ) (x : ℕ) where
-  abbrev other : ℕ → Bool
-  other y = not (eqb y x)
+  pub others_none : 0 ≡ count 0 (differs l (replicate (length l) x))
+  others_none = sym (count_nothing (differs l (replicate (length l) x)))
 
-  counted_to : (i : ℕ) → i ≤ length l → count_by other (take i l) ≡ count i (differs l (replicate (length l) x))
+  pub others_more : (i n m : ℕ) → i < length l → n ≡ count i (differs l (replicate (length l) x)) → m ≡ cond (not (eqb (get_or l i 0) x)) 1 0 + n
+      → m ≡ count (i + 1) (differs l (replicate (length l) x))
   unfolding differs
-  counted_to zero b = sym (count_nothing (differs l (replicate (length l) x)))
-  counted_to (suc i) b =
-      let here : other (get_or l i 0) ≡ differs l (replicate (length l) x) i =
+  others_more i n m b q e =
+      let here : not (eqb (get_or l i 0) x) ≡ differs l (replicate (length l) x) i =
       ap₂ (λ (y z : ℕ). not (eqb y z)) (get_or_any l i 0 idle b) (sym (get_or-replicate (length l) i x idle b)) in
-      let more : ◌≡◌ {A = ℕ} (count_by other (take (suc i) l)) (count_by other (take i l) + cond (other (get_or l i 0)) 1 0) = rw add-one at (sum_by_more (λ (y : ℕ). cond (other y) 1 0) l i 0 b) in
-      let one : ◌≡◌ {A = ℕ} (cond (other (get_or l i 0)) 1 0) (cond (differs l (replicate (length l) x) i) 1 0) = ap (λ (y : Bool). cond y 1 0) here in
-      omega (arith, more, one, counted_to i (omega arith), count_next (differs l (replicate (length l) x)) i)
+      rw add-one (e ∙ ap₂ (λ (y : Bool) (k : ℕ). cond y 1 0 + k) here q ∙ sym (count_next (differs l (replicate (length l) x)) i))
 
-  pub counted_others : (n : ℕ) → n ≡ count_by other l → n ≡ differing l (replicate (length l) x)
+  pub others_most : (i n : ℕ) → n ≡ count i (differs l (replicate (length l) x)) → n ≤ i
+  others_most i n q = rw q (count_most (differs l (replicate (length l) x)) i)
+
+  pub others_all : (i n : ℕ) → n ≡ count i (differs l (replicate (length l) x)) → i ≡ length l → n ≡ differing l (replicate (length l) x)
   unfolding differing
-  counted_others n q = q ∙ ap (count_by other) (sym (take_all (length l) l (omega arith))) ∙ counted_to (length l) (omega arith)
+  others_all i n q all = q ∙ ap (λ (k : ℕ). count k (differs l (replicate (length l) x))) all
 
 -- the part of a list from a to b, and how long it is
 abbrev part : ℕ → ℕ → List ℕ → List ℕ

@@ -12,13 +12,14 @@ use lib.Dec.{ltb, leb}
 use borrow.Author.Tests.{ltb-true, not-false, leb-false, leb-true, le-leb, lt-ltb}
 use Rattle.bits.proofs.Laws.Arrays.{Written, written_all}
 use Rattle.bits.proofs.Laws.Below.{list_same}
-use Rattle.std.specs.Prelude.{Result, Ok}
+use Rattle.std.specs.Prelude.{Result, Ok, get_or, length}
+use Rattle.std.proofs.lemmas.List.{get_or_default, get_or_past}
 use Rattle.tables.specs.declared.answers.Refusal.{Refusal}
 use Rattle.tables.specs.Outcomes.{Outcome, Done, Refused}
 use Rattle.zsrm.specs.declared.answers.Verdict.{Verdict}
 use Rattle.zsrm.specs.declared.answers.Verdicts.{Verdicts}
 use Rattle.zsrm.specs.declared.record.Record.{Record}
-use Rattle.zsrm.specs.Answers.{check_verdict, check_verdicts, verdict_answer, verdicts_answer}
+use Rattle.zsrm.specs.Answers.{check_verdict, check_verdicts, verdict_answer, verdict_of, verdicts_answer}
 use Rattle.zsrm.specs.Given.{Given}
 use Rattle.tables.specs.Tables.{job_count, Lists, arrival, deadline_instant, task_of}
 use Rattle.zsrm.specs.Record.{consistent, check11, done_at, standing_at}
@@ -122,6 +123,14 @@ verdicts_made g r checked d held out j p told w m =
     same k =
         ap (λ (o : Outcome). unless o Refused (Ok (verdict g.lists r k)))
         (ap (λ (o : Outcome). before o (check13 g.lists.jobs k)) p ∙ verdict_checked g r k)
+
+-- one of all verdicts is what stands at its place in the array, with whatever an array is read; past the last place it is a refusal
+module _ (all : Verdicts) (long : length all.of ≡ 64) (j : ℕ) where
+  pub verdict_there : (d : Result Verdict Refusal) → j < 64 → get_or all.of j d ≡ verdict_of all j
+  verdict_there d l = get_or_default all.of j d _ (omega (arith, long))
+
+  pub verdict_past : 64 ≤ j → verdict_of all j ≡ Refused 0 0
+  verdict_past l = get_or_past all.of j _ (omega (arith, long))
 
 -- a later job of a task arrives at an earlier one's deadline or after it
 due_before : (l : Lists) → check_lists l ≡ Done → (i j : ℕ) → i < j → j < job_count l.jobs → task_of l.jobs j ≡ task_of l.jobs i

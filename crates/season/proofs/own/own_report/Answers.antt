@@ -1,9 +1,13 @@
 use Prim.Native.Nat.{◌<◌}
-use mathlib.Core.Path.{ap, ◌∙◌, ◌≡◌}
+use mathlib.Core.Path.{ap, sym, ◌∙◌, ◌≡◌}
 use native.Mathlib.Omega.{arith}
+use borrow.Author.Rules.{rules}
+use Rattle.bits.proofs.Laws.Arrays.{length_of_map}
+use Rattle.std.specs.Prelude.{is_ok}
 use Rattle.tables.specs.declared.fields.Job.{Job}
 use Rattle.tables.specs.Tables.{job_count, lists, task_count}
 use Rattle.zsrm.specs.Record.{place_at, standing_at}
+use Rattle.zsrm.proofs.Laws.Verdicts.{verdict_there}
 use Rattle.season.specs.Own.{own_report, own_up_to}
 use Rattle.season.proofs.Laws.Own.{one_job, own_none, own_stored, room_there, judged_run_few, judged_run_task, judged_run_tasks}
 use Rattle.season.proofs.own.own_report.Goals as goal
@@ -28,6 +32,11 @@ offset_bounds-run-j c = omega (arith, judged_run_few c.requires)
 pub bounds-run-j : goal.bounds-run-j
 bounds-run-j c = omega (arith, judged_run_few c.requires)
 
+pub unwrap-verdict-requires : goal.unwrap-verdict-requires
+unwrap-verdict-requires c =
+    let there = verdict_there c.args.all (search (rules, length_of_map)) c.loop-j.j _ (omega (arith, judged_run_few c.requires)) in
+    ap is_ok (there ∙ c.requires.judged c.loop-j.j (omega arith))
+
 pub overflow_cast-j : goal.overflow_cast-j
 overflow_cast-j c = omega (arith, judged_run_few c.requires)
 
@@ -47,8 +56,9 @@ unfolding standing_at place_at
 join-requires c =
     let below : c.loop-j.j < job_count c.args.jobs.now = omega arith in
     let task = ap (λ (x : Job). x.task) c.job_at-job.ensures in
+    let there = verdict_there c.args.all (search (rules, length_of_map)) c.loop-j.j _ (omega (arith, judged_run_few c.requires)) in
     room_there c.requires c.loop-j.j _ c.loop-j.out _ below (omega (arith, judged_run_task c.requires c.loop-j.j below, task)) c.loop-j.invariant
-    (one_job c.requires c.loop-j.j _ _ _ below (ap (λ (x : Job). x.arrival) c.job_at-job.ensures) c.unwrap-verdict.ensures c.job_row-one.ensures)
+    (one_job c.requires c.loop-j.j _ _ _ below (ap (λ (x : Job). x.arrival) c.job_at-job.ensures) (sym there ∙ c.unwrap-verdict.ensures) c.job_row-one.ensures)
 
 pub offset_bounds-out-k-in-loop-j : goal.offset_bounds-out-k-in-loop-j
 offset_bounds-out-k-in-loop-j c =
@@ -65,9 +75,10 @@ unfolding standing_at place_at
 loop-j-preserved c =
     let below : c.loop-j.j < job_count c.args.jobs.now = omega arith in
     let task = ap (λ (x : Job). x.task) c.job_at-job.ensures in
+    let there = verdict_there c.args.all (search (rules, length_of_map)) c.loop-j.j _ (omega (arith, judged_run_few c.requires)) in
     own_stored (lists c.args.tasks.now c.args.jobs.now) c.args.run c.loop-j.j _ c.loop-j.out _ _ c.loop-j.invariant task
     (omega (arith, judged_run_task c.requires c.loop-j.j below, task))
-    (one_job c.requires c.loop-j.j _ _ _ below (ap (λ (x : Job). x.arrival) c.job_at-job.ensures) c.unwrap-verdict.ensures c.job_row-one.ensures) c.join.ensures
+    (one_job c.requires c.loop-j.j _ _ _ below (ap (λ (x : Job). x.arrival) c.job_at-job.ensures) (sym there ∙ c.unwrap-verdict.ensures) c.job_row-one.ensures) c.join.ensures
 
 pub returns : goal.returns
 unfolding own_report

@@ -2,11 +2,17 @@ use Prim.Native.Nat.{ℕ}
 use mathlib.Core.List.{map}
 use mathlib.Core.Path.{◌≡◌, ap, subst, sym, ◌∙◌}
 use native.Mathlib.Omega.{arith}
+use borrow.Author.Rules.{rules}
 use borrow.Author.Tests.{eq-eqb, ne_eqb}
+use Rattle.bits.proofs.Laws.Arrays.{length_of_map}
+use Rattle.std.specs.Prelude.{Result}
+use Rattle.tables.specs.declared.answers.Refusal.{Refusal}
 use Rattle.tables.specs.declared.fields.Job.{Job}
 use Rattle.tables.specs.Tables.{job_count, task_of}
 use Rattle.zsrm.specs.Answers.{verdict_of}
-use Rattle.window.specs.Code.{GatheredAs}
+use Rattle.zsrm.specs.declared.answers.Verdict.{Verdict}
+use Rattle.zsrm.proofs.Laws.Verdicts.{verdict_there}
+use Rattle.window.specs.Code.{GatheredAs, with_job}
 use Rattle.window.specs.Windows.{activations, jobs_below}
 use Rattle.window.proofs.Laws.Gathered.{gathered_next, gathered_room}
 use Rattle.window.proofs.Laws.Jobs.{below_few, below_none}
@@ -26,10 +32,11 @@ loop-j-preserved c =
     let a = c.args in
     let j = c.loop-j.j in
     let task = ap (λ (x : Job). x.task) c.job_at-job.ensures in
+    let there = verdict_there a.all (search (rules, length_of_map)) j _ (omega (arith, c.requires)) in
     gathered_next a.jobs.now a.task (verdict_of a.all) j c.loop-j.own c.loop-j.invariant
     (omega (arith, below_few a.jobs.now a.task j, c.requires)) c.if-job-task.own
     (elim c.if-job-task.branch [
-      | then-job-task w ↦ rw (eq-eqb (task_of a.jobs.now j) a.task (sym task ∙ w.if-job-task.true)) (w.own-is ∙ w.push.ensures)
+      | then-job-task w ↦ rw (eq-eqb (task_of a.jobs.now j) a.task (sym task ∙ w.if-job-task.true)) (w.own-is ∙ w.push.ensures ∙ ap (λ (v : Result Verdict Refusal). with_job c.loop-j.own j v) there)
       | else-job-task w ↦ rw (ne_eqb (task_of a.jobs.now j) a.task (λ q. w.if-job-task.false (task ∙ q))) w.own-is
     ])
 
