@@ -58,20 +58,21 @@ fn check_call(given: Offer, entries: usize) -> Outcome
     check17(given, entries)
 }
 
-// The runs' own checks, run by run: 5 to 8 of their lists.
+// The runs' own checks, run by run: 5 to 8 of their lists. Each run is asked, and the first refusal goes first.
 fn check_runs(given: Offer) -> Result<(), RefusedRun>
     requires counts_len_bound { length given.counts.now ≤ 32 }
     requires counts_value { jobs_before given.counts.now (length given.counts.now) * 3 ≡ length given.jobs.now }
     ensures { result ≡ check_runs given.entry.tasks.now given.entry.jobs.now given.entry.counts.now (length given.entry.counts.now) }
 {
+    let mut found = Ok(());
     let mut from: usize = 0;
     for (r, count) in given.counts.iter().enumerate() {
         let to = from + list_length(*count);
         let own = check_jobs(given.tasks, &given.jobs[from..to]);
-        with_run(r as u32, own)?;
+        found = found.and(with_run(r as u32, own));
         from = to;
     }
-    Ok(())
+    found
 }
 
 // All checks of a batch, in their order.

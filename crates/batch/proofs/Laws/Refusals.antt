@@ -4,15 +4,14 @@ use mathlib.Core.Bool.{Bool, false, not, true, ◌||◌}
 use mathlib.Core.List.{List, [], ◌∷◌}
 use mathlib.Core.Logic.{inl, inr, ◌↔◌, ◌⊎◌}
 use mathlib.Core.Path.{ap, ap₂, refl, subst, sym, ◌∙◌, ◌≡◌}
-use native.Mathlib.Nat.{not-suc-le-zero}
 use native.Mathlib.Numerals.{add-one}
 use native.Mathlib.Omega.{arith}
 use lib.Dec.{eqb, ltb}
 use lib.ListN.{length}
 use borrow.Author.Tests.{eq-eqb, eqb-true, le-ltb, ltb-false}
-use Rattle.bits.proofs.Laws.Below.{last_or_below}
 use Rattle.bits.proofs.Laws.Bools.{apart}
 use Rattle.std.specs.Prelude.{Ok, Err, IsErrAnd, ⊤}
+use Rattle.std.specs.Result.{result_and}
 use Rattle.tables.specs.Outcomes.{Outcome, Done, Refused}
 use Rattle.tables.specs.Refusals.{ascending, before, check9, check_jobs, check_tasks, refuse}
 use Rattle.tables.proofs.Laws.Refusals.{Numbered, ascending_at, before_first, before_second, fine, numbered_before, numbered_refuse, refuse_fine, tasks_numbered, first_of, own_refused}
@@ -49,6 +48,12 @@ found_done (Err w) e = apart (cc)
 pub found_refused : (a : Found) (number place : ℕ) → outcome_of a ≡ Refused number place → (w : RefusedRun) × (a ≡ Err w)
 found_refused (Ok u) number place e = apart (cc)
 found_refused (Err w) number place e = (w, refl)
+
+-- the library's `and` lets the first go first
+pub and_first : (a b : Found) → result_and a b ≡ goes_first a b
+unfolding goes_first
+and_first (Ok u) b = refl
+and_first (Err w) b = refl
 
 -- as `?` meets them: what it hands back is what was found first, and past it nothing was found
 module _ (first later : Found) {a r : Found} where
@@ -169,28 +174,6 @@ module _ (tasks jobs counts : List ℕ) where
       let both = sym (goes_first_outcome (check_runs tasks jobs counts n) (with_run n (own n))) ∙ ok in
       let last = sym (with_run_outcome n (own n)) ∙ before_second (outcome_of (check_runs tasks jobs counts n)) _ both in
       ap run_of (goes_first_later (check_runs tasks jobs counts n) (with_run n (own n)) (before_first _ (outcome_of (with_run n (own n))) both) ∙ ap (with_run n) last)
-
-  -- a loop goes on only while nothing is found, and stops at the first run that is refused
-  pub runs_go_on : (r : ℕ) {found : Found} {u : ⊤} → check_runs tasks jobs counts r ≡ Ok tt → found ≡ with_run r (own r) → found ≡ Ok u → check_runs tasks jobs counts (r + 1) ≡ Ok tt
-  unfolding goes_first
-  runs_go_on r none e q = rw (checks_more tasks jobs counts r, none, ← e, q)
-
-  kept_from : (n r : ℕ) {w : RefusedRun} → r < n → check_runs tasks jobs counts r ≡ Ok tt → with_run r (own r) ≡ Err w → check_runs tasks jobs counts n ≡ Err w
-  unfolding check_runs goes_first
-  kept_from zero r l none e = absurd (not-suc-le-zero l)
-  kept_from (suc n) r {w = w} l none e = go (last_or_below n r l) (λ m. kept_from n r m none e)
-    where
-      go : (r ≡ n) ⊎ (r < n) → (r < n → check_runs tasks jobs counts n ≡ Err w) → goes_first (check_runs tasks jobs counts n) (with_run n (own n)) ≡ Err w
-      go (inl q) below = rw (← q, none) e
-      go (inr m) below = rw (below m)
-
-  pub runs_stop : (n r : ℕ) {found result : Found} {w : RefusedRun} → r < n → check_runs tasks jobs counts r ≡ Ok tt → found ≡ with_run r (own r) → found ≡ Err w
-      → IsErrAnd result (λ x. x ≡ w) → result ≡ check_runs tasks jobs counts n
-  runs_stop n r {result = result} {w = w} l none e q h = at result h ∙ sym (kept_from n r l none (sym e ∙ q))
-    where
-      at : (o : Found) → IsErrAnd o (λ x. x ≡ w) → o ≡ Err w
-      at (Ok u) h = absurd h
-      at (Err x) h = rw h
 
   -- run r is the first that is refused, of n
   pub record FirstFound (n number place r : ℕ) : Type 0 where
